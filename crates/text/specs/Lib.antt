@@ -1,0 +1,12 @@
+pub mod Token
+pub mod Grammar
+pub mod Parser
+pub mod Printer
+pub mod Lexer
+pub mod Text
+pub mod Promise
+pub mod Reference
+pub mod Gaps
+pub mod Numbers
+pub mod Signs
+pub mod Words
