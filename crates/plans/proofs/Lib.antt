@@ -1,0 +1,4 @@
+pub mod Drafts
+pub mod Parts
+pub mod Simple
+pub mod Written

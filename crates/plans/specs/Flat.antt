@@ -6,9 +6,11 @@
 -- The expressions of a statement follow its head, in postfix order; the first unit that is of no expression ends them.
 -- Assumes nothing.
 use mathlib.Core.Path.{_≡_}
+use mathlib.Core.Bool.{Bool, true, false, cond, _||_}
 use mathlib.Core.List.{List, [], _∷_, _++_}
 use Prim.Native.Nat.{ℕ, zero, suc, _+_, _-_, _*_}
-use lib.ListN.{length, replicate}
+use lib.Dec.{eqb}
+use lib.ListN.{length, take, replicate}
 use Rattle.plans.specs.Plan.{Name, Expr, Lit, Var, Plus, Minus, Times, Less, Same, Not, Stmt, Set, Do, Sleep, Hear, If, While, Guard, Return, FailNow, Block, done, then, exprSize, stmtSize, sizeOf}
 
 -- where a failure goes: nowhere, so that the flow has failed, or to the address of a guard's other part
@@ -39,27 +41,27 @@ unfoldable pub codesOf : List Expr → List ℕ
 codesOf [] = []
 codesOf (e ∷ es) = codeOf e ++ codesOf es
 
--- a name, one letter a word, and zeros behind it
+-- a name, one letter a word, and zeros behind it: 64 words
 unfoldable pub padded : Name → List ℕ
-padded n = n ++ replicate (64 - length n) 0
+padded n = take 64 (n ++ replicate 64 0)
 
--- The draft: a plan as it is read, before it is known where control goes on behind it. A head has how many units the whole statement has,
--- and where it has a second part, behind how many units that begins.
+-- The draft: a plan as it is read, before it is known where control goes on behind a statement. A head has how many units the whole statement has,
+-- behind how many units its second part begins, if it has two, and how many its condition has, if parts follow that.
 unfoldable mutual
   pub draftStmt : Stmt → List ℕ
   draftStmt (Set v e) = 1 ∷ v ∷ stmtSize (Set v e) ∷ 0 ∷ codeOf e
   draftStmt (Do v k es t p) = 2 ∷ v ∷ stmtSize (Do v k es t p) ∷ 0 ∷ k ∷ t ∷ p ∷ length es ∷ 0 ∷ 0 ∷ 0 ∷ 0 ∷ 0 ∷ 0 ∷ 0 ∷ 0 ∷ codesOf es
   draftStmt (Sleep e) = 3 ∷ 0 ∷ stmtSize (Sleep e) ∷ 0 ∷ codeOf e
   draftStmt (Hear v w n e) = 4 ∷ v ∷ stmtSize (Hear v w n e) ∷ w ∷ (padded n ++ codeOf e)
-  draftStmt (If e x y) = 5 ∷ (1 + (exprSize e + sizeOf x)) ∷ stmtSize (If e x y) ∷ 0 ∷ (codeOf e ++ (draft x ++ draft y))
-  draftStmt (While e x) = 6 ∷ 0 ∷ stmtSize (While e x) ∷ 0 ∷ (codeOf e ++ draft x)
-  draftStmt (Guard x y) = 8 ∷ (1 + sizeOf x) ∷ stmtSize (Guard x y) ∷ 0 ∷ (draft x ++ draft y)
+  draftStmt (If e x y) = 5 ∷ (1 + (exprSize e + sizeOf x)) ∷ stmtSize (If e x y) ∷ exprSize e ∷ (codeOf e ++ (draftOf x ++ draftOf y))
+  draftStmt (While e x) = 6 ∷ 0 ∷ stmtSize (While e x) ∷ exprSize e ∷ (codeOf e ++ draftOf x)
+  draftStmt (Guard x y) = 8 ∷ (1 + sizeOf x) ∷ stmtSize (Guard x y) ∷ 0 ∷ (draftOf x ++ draftOf y)
   draftStmt (Return e) = 10 ∷ 0 ∷ stmtSize (Return e) ∷ 0 ∷ codeOf e
   draftStmt FailNow = 11 ∷ 0 ∷ 1 ∷ 0 ∷ []
 
-  pub draft : Block → List ℕ
-  draft done = 12 ∷ 0 ∷ 0 ∷ 0 ∷ []
-  draft (then s b) = draftStmt s ++ draft b
+  pub draftOf : Block → List ℕ
+  draftOf done = 12 ∷ 0 ∷ 0 ∷ 0 ∷ []
+  draftOf (then s b) = draftStmt s ++ draftOf b
 
 -- how many frames are under a statement that b follows, in a part with so many under it
 unfoldable pub under : Block → ℕ → ℕ
@@ -102,3 +104,23 @@ laid b = lay 0 b (4 * sizeOf b - 3) Nowhere 0
 -- these words are that plan
 abbrev pub IsFlat : List ℕ → Block → Type 0
 IsFlat ws b = ws ≡ laid b
+
+-- a statement with no parts
+unfoldable pub isSimple : Stmt → Bool
+isSimple (Set v e) = true
+isSimple (Do v k es t p) = true
+isSimple (Sleep e) = true
+isSimple (Hear v w n e) = true
+isSimple (If e x y) = false
+isSimple (While e x) = false
+isSimple (Guard x y) = false
+isSimple (Return e) = true
+isSimple FailNow = true
+
+-- the third word of a head with no parts: nothing goes on behind the plan's end or a failure
+abbrev pub nextWord : (kind next : ℕ) → ℕ
+nextWord k next = cond (eqb k 10 || eqb k 11) 0 next
+
+-- and its fourth: a task and a failure say where a failure goes
+abbrev pub lastWord : (kind way own : ℕ) → ℕ
+lastWord k way own = cond (eqb k 2 || eqb k 11) way own

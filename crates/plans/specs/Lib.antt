@@ -1,2 +1,4 @@
 pub mod Plan
 pub mod Flat
+pub mod Noted
+pub mod Sheet

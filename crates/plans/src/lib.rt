@@ -1,2 +1,4 @@
-// Plans: the language, its flat form, and expressions.
-pub const VARIABLES: usize = 64;
+// Plans: the language, and its flat form in words of 64 bits.
+pub mod kinds;
+pub mod link;
+pub mod sheet;
