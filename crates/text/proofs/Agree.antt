@@ -67,8 +67,8 @@ mutual
   to-stmt (AStmt.hear ok x) us = hear ok (to-reads x us)
   to-stmt (AStmt.if {xs = xs} {ys = ys} {zs = zs} x y z) us =
       if {us = (ys ++ (key END ∷ key ELSE ∷ key BEGIN ∷ (zs ++ (key END ∷ [])))) ++ us} {vs = (zs ++ (key END ∷ [])) ++ us} (rw (append-assoc xs (key BEGIN ∷ (ys ++ (key END ∷ key ELSE ∷ key BEGIN ∷ (zs ++ (key END ∷ []))))) us) (to-reads x _))
-        (rw (append-assoc ys (key END ∷ key ELSE ∷ key BEGIN ∷ (zs ++ (key END ∷ []))) us) (to-part y _))
-        (rw (append-assoc zs (key END ∷ []) us) (to-part z (key END ∷ us)))
+      (rw (append-assoc ys (key END ∷ key ELSE ∷ key BEGIN ∷ (zs ++ (key END ∷ []))) us) (to-part y _))
+      (rw (append-assoc zs (key END ∷ []) us) (to-part z (key END ∷ us)))
   to-stmt (AStmt.while {xs = xs} {ys = ys} x y) us =
       while {us = (ys ++ (key END ∷ [])) ++ us} (rw (append-assoc xs (key BEGIN ∷ (ys ++ (key END ∷ []))) us) (to-reads x _)) (rw (append-assoc ys (key END ∷ []) us) (to-part y (key END ∷ us)))
   to-stmt (AStmt.guard {xs = xs} {ys = ys} x y) us =
@@ -108,27 +108,36 @@ mutual
   pub from-stmt : {ts us : List Token} {s : Stmt} → IsStmt ts s us → Front (λ xs. AStmt xs s) ts us
   from-stmt (set {v = v} x) = let r = to-says x in (key SET ∷ variable v ∷ op SAME ∷ r .0, ap (λ (z : List Token). key SET ∷ variable v ∷ op SAME ∷ z) (r .1), AStmt.set (r .2))
   from-stmt (does {us = us} {v = v} {k = k} {n = n} {p = p} x ok) =
-      let r = args-exprs x in
-      (variable v ∷ op SAME ∷ key DO ∷ number k ∷ key OPEN ∷ (r .0 ++ (key CLOSE ∷ key TRIES ∷ number n ∷ key PAUSE ∷ number p ∷ [])),
-        ap (λ (z : List Token). variable v ∷ op SAME ∷ key DO ∷ number k ∷ key OPEN ∷ z) (r .1 ∙ sym (append-assoc (r .0) (key CLOSE ∷ key TRIES ∷ number n ∷ key PAUSE ∷ number p ∷ []) us)), AStmt.does (r .2) ok)
+      let r = args-exprs x in (
+        variable v ∷ op SAME ∷ key DO ∷ number k ∷ key OPEN ∷ (r .0 ++ (key CLOSE ∷ key TRIES ∷ number n ∷ key PAUSE ∷ number p ∷ [])),
+        ap (λ (z : List Token). variable v ∷ op SAME ∷ key DO ∷ number k ∷ key OPEN ∷ z) (r .1 ∙ sym (append-assoc (r .0) (key CLOSE ∷ key TRIES ∷ number n ∷ key PAUSE ∷ number p ∷ []) us)),
+        AStmt.does (r .2) ok,
+      )
   from-stmt (sleep x) = let r = to-says x in (key SLEEP ∷ r .0, ap (λ (z : List Token). key SLEEP ∷ z) (r .1), AStmt.sleep (r .2))
   from-stmt (hear {v = v} {w = w} {n = n} ok x) =
-      let r = to-says x in
-      (variable v ∷ key COMMA ∷ variable w ∷ op SAME ∷ key HEAR ∷ name n ∷ key FOR ∷ r .0,
-        ap (λ (z : List Token). variable v ∷ key COMMA ∷ variable w ∷ op SAME ∷ key HEAR ∷ name n ∷ key FOR ∷ z) (r .1), AStmt.hear ok (r .2))
+      let r = to-says x in (
+        variable v ∷ key COMMA ∷ variable w ∷ op SAME ∷ key HEAR ∷ name n ∷ key FOR ∷ r .0,
+        ap (λ (z : List Token). variable v ∷ key COMMA ∷ variable w ∷ op SAME ∷ key HEAR ∷ name n ∷ key FOR ∷ z) (r .1),
+        AStmt.hear ok (r .2),
+      )
   from-stmt (if {us = us} {vs = vs} {ws = ws} x y z) =
-      let r = to-says x in let s = from-part y in let t = from-part z in
-      (key IF ∷ (r .0 ++ (key BEGIN ∷ (s .0 ++ (key END ∷ key ELSE ∷ key BEGIN ∷ (t .0 ++ (key END ∷ [])))))),
+      let r = to-says x in let s = from-part y in let t = from-part z in (
+        key IF ∷ (r .0 ++ (key BEGIN ∷ (s .0 ++ (key END ∷ key ELSE ∷ key BEGIN ∷ (t .0 ++ (key END ∷ [])))))),
         ap (λ (q : List Token). key IF ∷ q) (joined (r .0) (s .0 ++ (key END ∷ key ELSE ∷ key BEGIN ∷ (t .0 ++ (key END ∷ [])))) _ us ws (key BEGIN) (r .1) (halves (s .0) (t .0) us vs ws (s .1) (t .1))),
-        AStmt.if (r .2) (s .2) (t .2))
+        AStmt.if (r .2) (s .2) (t .2),
+      )
   from-stmt (while {us = us} {vs = vs} x y) =
-      let r = to-says x in let s = from-part y in
-      (key WHILE ∷ (r .0 ++ (key BEGIN ∷ (s .0 ++ (key END ∷ [])))),
-        ap (λ (q : List Token). key WHILE ∷ q) (joined (r .0) (s .0 ++ (key END ∷ [])) _ us vs (key BEGIN) (r .1) (braces (s .0) us vs (s .1))), AStmt.while (r .2) (s .2))
+      let r = to-says x in let s = from-part y in (
+        key WHILE ∷ (r .0 ++ (key BEGIN ∷ (s .0 ++ (key END ∷ [])))),
+        ap (λ (q : List Token). key WHILE ∷ q) (joined (r .0) (s .0 ++ (key END ∷ [])) _ us vs (key BEGIN) (r .1) (braces (s .0) us vs (s .1))),
+        AStmt.while (r .2) (s .2),
+      )
   from-stmt (guard {ts = ts} {us = us} {vs = vs} y z) =
-      let s = from-part y in let t = from-part z in
-      (key GUARD ∷ key BEGIN ∷ (s .0 ++ (key END ∷ key ELSE ∷ key BEGIN ∷ (t .0 ++ (key END ∷ [])))),
-        ap (λ (q : List Token). key GUARD ∷ key BEGIN ∷ q) (halves (s .0) (t .0) ts us vs (s .1) (t .1)), AStmt.guard (s .2) (t .2))
+      let s = from-part y in let t = from-part z in (
+        key GUARD ∷ key BEGIN ∷ (s .0 ++ (key END ∷ key ELSE ∷ key BEGIN ∷ (t .0 ++ (key END ∷ [])))),
+        ap (λ (q : List Token). key GUARD ∷ key BEGIN ∷ q) (halves (s .0) (t .0) ts us vs (s .1) (t .1)),
+        AStmt.guard (s .2) (t .2),
+      )
   from-stmt (return x) = let r = to-says x in (key RETURN ∷ r .0, ap (λ (z : List Token). key RETURN ∷ z) (r .1), AStmt.return (r .2))
   from-stmt fail = (key FAIL ∷ [], refl, AStmt.fail)
 

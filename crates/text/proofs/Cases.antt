@@ -16,12 +16,12 @@ use Rattle.text.specs.Parser.{andThen, Parser, Join, joins, ends, onJoin, prod
 use lib.Chars.{codes}
 use Rattle.std.specs.Written.{decimal, digits}
 use Rattle.plans.specs.Plan.{every, wordOk, sameName, sizeOf, stmtSize, exprSize, sizes}
-use Rattle.text.specs.Printer.{wrap, put, putMore, putArgs, putStmt, putPart, tokensOf}
-use Rattle.text.specs.Lexer.{spell, spellOp, both, orElse, valueFrom, numberOf, keyIn, keyOf, nameOf, variableOf, wordToken, ended as endedWord, signAt, goes, gives, lex, tokensIn, spelled, spaced}
-use Rattle.text.specs.Text.{Reading, nothing, plan, sized, whole, parsed, readText, spacesFor, stmtGaps, gaps, textOf}
+use Rattle.text.specs.Printer.{wrap, put, putMore, putArgs, putStmt, putPart, tokensOf, bracketed, between, exprText, moreText, argsText, indent, lineStmt, linesOf, textOf}
+use Rattle.text.specs.Lexer.{spell, spellOp, both, orElse, valueFrom, numberOf, keyIn, keyOf, nameOf, variableOf, wordToken, ended as endedWord, signAt, goes, gives, lex, tokensIn, spelled}
+use Rattle.text.specs.Text.{Reading, nothing, plan, sized, whole, parsed, readText}
 
 unfoldable pub runs : Bool
-unfolding readText parsed whole sized sizeOf stmtSize exprSize sizes every sameName spell spellOp both orElse valueFrom numberOf keyIn keyOf nameOf variableOf wordToken endedWord signAt goes gives lex andThen onJoin productOp sumOp compareOp moreS chainS codeOf after afterSame withNumber withVariable withName ifOk levels inBracket byWord unaryS exprS closes argsS listS doS hearS assignS partS keyS stmtS ended blockS planS wrap put putMore putArgs putStmt putPart spelled spaced spacesFor stmtGaps gaps digits
+unfolding readText parsed whole sized sizeOf stmtSize exprSize sizes every sameName spell spellOp both orElse valueFrom numberOf keyIn keyOf nameOf variableOf wordToken endedWord signAt goes gives lex andThen onJoin productOp sumOp compareOp moreS chainS codeOf after afterSame withNumber withVariable withName ifOk levels inBracket byWord unaryS exprS closes argsS listS doS hearS assignS partS keyS stmtS ended blockS planS wrap put putMore putArgs putStmt putPart spelled bracketed between exprText moreText argsText indent lineStmt linesOf digits
 runs = true
 
 one-set : readText 65536 (codes "set v0 = 1 + 2 * v3 - 4 # a remark") ≡ plan (then (Set 0 (Minus (Plus (Lit 1) (Times (Lit 2) (Var 3))) (Lit 4))) done)
@@ -57,18 +57,27 @@ no5 : readText 65536 (codes "set v0 = 18446744073709551616") ≡ nothing
 unfolding runs
 no5 = refl
 
-shown : spaced (tokensOf (then (While (Less (Var 1) (Plus (Lit 1) (Times (Plus (Lit 2) (Lit 3)) (Var 2)))) (then (Set 1 (Not (Less (Var 1) (Lit 2)))) done)) done)) []
-    ≡ codes "while v1 < 1 + ( 2 + 3 ) * v2 { set v1 = not ( v1 < 2 ) } "
-unfolding runs
-shown = refl
-
 rest : readText 65536 (codes "guard { while v1 { sleep 5 } } else { set v63 = (((v2))) - (1 - 2) }") ≡
     plan (then (Guard (then (While (Var 1) (then (Sleep (Lit 5)) done)) done) (then (Set 63 (Minus (Var 2) (Minus (Lit 1) (Lit 2)))) done)) done)
 unfolding runs
 rest = refl
 
--- two lines, and a part of one
-lines : textOf (then (Set 0 (Minus (Lit 1) (Minus (Lit 2) (Lit 3)))) (then (While (Var 0) (then FailNow done)) done)) ≡
-    codes "set v0 = 1 - ( 2 - 3 )" ++ (10 ∷ (codes "while v0 {" ++ (10 ∷ (codes "fail" ++ (10 ∷ (codes "}" ++ (10 ∷ [])))))))
-unfolding runs
+-- printed texts
+line : List ℕ → List ℕ → List ℕ
+line a b = a ++ (10 ∷ b)
+
+lines : textOf (then (Set 0 (Minus (Lit 1) (Minus (Lit 2) (Lit 3)))) (then (While (Less (Var 0) (Times (Plus (Lit 2) (Lit 3)) (Var 2))) (then (Set 1 (Not (Same (Var 1) (Lit 2)))) (then FailNow done))) done)) ≡
+    line (codes "set v0 = 1 - (2 - 3)") (line (codes "while v0 < (2 + 3) * v2 {") (line (codes "    set v1 = not (v1 = 2)") (line (codes "    fail") (line (codes "}") []))))
+unfolding runs line
 lines = refl
+
+tasks : textOf (then (Do 1 7 (Var 0 ∷ Lit 3 ∷ []) 2 10) (then (Do 1 7 [] 1 0) (then (Hear 1 2 (codes "go") (Lit 5)) (then (Guard (then (Sleep (Lit 5)) done) (then (Return (Var 1)) done)) done)))) ≡
+    line (codes "v1 = do 7 (v0, 3) tries 2 pause 10") (line (codes "v1 = do 7 () tries 1 pause 0") (line (codes "v1, v2 = hear go for 5")
+    (line (codes "guard {") (line (codes "    sleep 5") (line (codes "} else {") (line (codes "    return v1") (line (codes "}") [])))))))
+unfolding runs line
+tasks = refl
+
+choice : textOf (then (If (Var 0) (then (If (Lit 1) done (then FailNow done)) done) done) done) ≡
+    line (codes "if v0 {") (line (codes "    if 1 {") (line (codes "    } else {") (line (codes "        fail") (line (codes "    }") (line (codes "} else {") (line (codes "}") []))))))
+unfolding runs line
+choice = refl

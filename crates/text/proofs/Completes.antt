@@ -117,6 +117,7 @@ args-complete (some x y) = rw (reads-opens x, expr-complete x (more-fresh y), mo
 
 mutual
   unfolding stmtS keyS assignS doS hearS partS blockS after afterSame withNumber withVariable withName ifOk codeOf andThen ended
+
   pub stmt-complete : {ts us : List Token} {s : Stmt} → IsStmt ts s us → (n : ℕ) → length ts ≤ n → Fresh us → stmtS (λ t. blockS n t) ts ≡ got s us
   stmt-complete (set x) n le f = rw (expr-complete x f) refl
   stmt-complete (does x ok) n le f = rw (args-complete x, ok) refl

@@ -11,7 +11,7 @@ use lib.ListN.{length}
 use Rattle.std.proofs.shelf.Ways.{tells}
 use Prim.Native.Nat.{_^_}
 use mathlib.Core.List.{append-assoc, append-nil}
-use lib.ListN.{getD}
+use lib.ListN.{getD, replicate}
 use lib.Chars.{codes}
 use borrow.Author.Needs.{needs}
 use Rattle.std.specs.shelf.Text.{allDigits}
@@ -20,7 +20,7 @@ use Rattle.std.proofs.shelf.Numerals.{Numerals, numerals-by-fold}
 use Rattle.std.proofs.shelf.Decimals.{digits-decimal, value-decimal, decimal-some, first-decimal, decimal-digit, length-decimal-le}
 use Rattle.plans.specs.Plan.{Name, every, sameName, wordOk, nameOk}
 use Rattle.text.specs.Token.{Key, SET, DO, TRIES, PAUSE, SLEEP, HEAR, FOR, IF, ELSE, WHILE, GUARD, RETURN, FAIL, NOT, OPEN, CLOSE, BEGIN, END, COMMA, Op, PLUS, MINUS, TIMES, LESS, SAME, Token, number, variable, name, op, key}
-use Rattle.text.specs.Lexer.{spell, spellOp, Lexed, wrong, tokens, both, orElse, isWrong, one, valueFrom, top, numberOf, keyIn, keyOf, nameOf, plainDigits, variableOf, wordToken, ended, wordByte, signAt, Mode, word, remark, goes, gives, lex, tokensIn, tokenOk, spelled, gap, spaced}
+use Rattle.text.specs.Lexer.{spell, spellOp, Lexed, wrong, tokens, both, orElse, isWrong, one, valueFrom, top, numberOf, keyIn, keyOf, nameOf, plainDigits, variableOf, wordToken, ended, wordByte, signAt, Mode, word, remark, goes, gives, lex, tokensIn, tokenOk, spelled}
 use Rattle.text.proofs.Printed.{and-left, and-right, and-both}
 
 pub both-nil : (r : Lexed) → both (tokens []) r ≡ r
@@ -28,19 +28,43 @@ unfolding both
 both-nil wrong = refl
 both-nil (tokens ts) = refl
 
-both-none : (r : Lexed) → both r (tokens []) ≡ r
+pub both-none : (r : Lexed) → both r (tokens []) ≡ r
 unfolding both
 both-none wrong = refl
 both-none (tokens ts) = ap tokens (append-nil ts)
 
--- a word and a blank behind it
-pub lex-word : (u w : List ℕ) (g : Bool) (rest : List ℕ) → every wordByte w ≡ true → lex (word u) (w ++ (gap g ∷ rest)) ≡ both (ended (u ++ w)) (lex (word []) rest)
-unfolding lex gives goes signAt every
-lex-word u [] true rest h = rw (both-none (ended u), append-nil u) refl
-lex-word u [] false rest h = rw (both-none (ended u), append-nil u) refl
-lex-word u (b ∷ bs) g rest h =
+pub both-assoc : (r s t : Lexed) → both (both r s) t ≡ both r (both s t)
+unfolding both
+both-assoc wrong s t = refl
+both-assoc (tokens xs) wrong t = refl
+both-assoc (tokens xs) (tokens ys) wrong = refl
+both-assoc (tokens xs) (tokens ys) (tokens zs) = ap tokens (append-assoc xs ys zs)
+
+-- what follows a word
+pub word-stop : (w : List ℕ) (b : ℕ) (bs : List ℕ) → wordByte b ≡ false → both (ended w) (lex (word []) (b ∷ bs)) ≡ lex (word w) (b ∷ bs)
+unfolding lex gives goes ended
+word-stop w b bs h = rw (h, both-nil, both-assoc) refl
+
+pub word-end : (w : List ℕ) → both (ended w) (lex (word []) []) ≡ lex (word w) []
+unfolding lex ended
+word-end [] = both-nil (tokens [])
+word-end (b ∷ bs) = both-none _
+
+-- no word goes on here
+abbrev pub apart : List ℕ → Bool
+apart [] = true
+apart (b ∷ bs) = not (wordByte b)
+
+word-over : (w rest : List ℕ) → apart rest ≡ true → lex (word w) rest ≡ both (ended w) (lex (word []) rest)
+word-over w [] a = sym (word-end w)
+word-over w (b ∷ bs) a = let h : wordByte b ≡ false = grind (arith, tells) in sym (word-stop w b bs h)
+
+lex-word : (u w rest : List ℕ) → every wordByte w ≡ true → apart rest ≡ true → lex (word u) (w ++ rest) ≡ both (ended (u ++ w)) (lex (word []) rest)
+unfolding lex gives goes every
+lex-word u [] rest h a = rw append-nil (word-over u rest a)
+lex-word u (b ∷ bs) rest h a =
     let hb : wordByte b ≡ true = and-left (wordByte b) (every wordByte bs) h in
-    let ih : lex (word (u ++ (b ∷ []))) (bs ++ (gap g ∷ rest)) ≡ both (ended ((u ++ (b ∷ [])) ++ bs)) (lex (word []) rest) = lex-word (u ++ (b ∷ [])) bs g rest (and-right (wordByte b) (every wordByte bs) h) in
+    let ih : lex (word (u ++ (b ∷ []))) (bs ++ rest) ≡ both (ended ((u ++ (b ∷ [])) ++ bs)) (lex (word []) rest) = lex-word (u ++ (b ∷ [])) bs rest (and-right (wordByte b) (every wordByte bs) h) a in
     rw (hb, both-nil, ih, append-assoc) refl
 
 -- decimals
@@ -123,81 +147,119 @@ unfolding every
 letters-words [] h = refl
 letters-words (d ∷ ds) h = let ih : every (λ (b : ℕ). leb 97 b && leb b 122) ds ≡ true → every wordByte ds ≡ true = letters-words ds in grind (arith, tells)
 
+-- the tokens of these bytes are those
+pub record Lexes (bs : List ℕ) (us : List Token) : Type 0 where
+  pub is : tokensIn bs ≡ tokens us
+
 -- a token that is a word
-word-back : (t : Token) (b : ℕ) (bs : List ℕ) (g : Bool) (rest : List ℕ) → every wordByte (b ∷ bs) ≡ true → wordToken (b ∷ bs) ≡ tokens (t ∷ []) →
-    lex (word []) ((b ∷ bs) ++ (gap g ∷ rest)) ≡ both (tokens (t ∷ [])) (lex (word []) rest)
-unfolding ended
-word-back t b bs g rest h e = lex-word [] (b ∷ bs) g rest h ∙ rw e refl
-
-word-back′ : (t : Token) (w : List ℕ) (g : Bool) (rest : List ℕ) → 0 < length w → every wordByte w ≡ true → wordToken w ≡ tokens (t ∷ []) →
-    lex (word []) (w ++ (gap g ∷ rest)) ≡ both (tokens (t ∷ [])) (lex (word []) rest)
-word-back′ t [] g rest l h e = absurd (omega arith)
-word-back′ t (b ∷ bs) g rest l h e = word-back t b bs g rest h e
-
--- a sign
-sign-back : (t : Token) (b : ℕ) (g : Bool) (rest : List ℕ) → wordByte b ≡ false → eqb b 35 ≡ false → signAt b ≡ tokens (t ∷ []) →
-    lex (word []) (b ∷ gap g ∷ rest) ≡ both (tokens (t ∷ [])) (lex (word []) rest)
-unfolding lex gives goes ended every
-sign-back t b g rest h k e = rw (h, k, e, both-nil) (ap (λ r. both (tokens (t ∷ [])) r) (go g))
+word-back : {rest : List ℕ} {us : List Token} (t : Token) (w : List ℕ) → 0 < length w → every wordByte w ≡ true → wordToken w ≡ tokens (t ∷ []) → apart rest ≡ true → Lexes rest us → Lexes (w ++ rest) (t ∷ us)
+unfolding ended both
+word-back t [] l h e a r = absurd (omega arith)
+word-back {rest} {us} t (b ∷ bs) l h e a r = record { is = lex-word [] (b ∷ bs) rest h a ∙ rest-is }
   where
-    go : (g : Bool) → lex (word []) (gap g ∷ rest) ≡ lex (word []) rest
-    go g = lex-word [] [] g rest refl ∙ both-nil _
+    rest-is : both (ended (b ∷ bs)) (lex (word []) rest) ≡ tokens (t ∷ us)
+    rest-is = rw (e, r .is) refl
 
-key-back : (k : Key) (g : Bool) (rest : List ℕ) → lex (word []) (spell k ++ (gap g ∷ rest)) ≡ both (tokens (key k ∷ [])) (lex (word []) rest)
+-- a token that is a sign
+sign-back : {rest : List ℕ} {us : List Token} (t : Token) (b : ℕ) → wordByte b ≡ false → eqb b 35 ≡ false → signAt b ≡ tokens (t ∷ []) → Lexes rest us → Lexes (b ∷ rest) (t ∷ us)
+unfolding lex gives goes ended both
+sign-back t b h k e r = record { is = rw (h, k, e, r .is) refl }
+
+-- a blank is no token
+pub blank : {rest : List ℕ} {us : List Token} → Lexes rest us → Lexes (32 ∷ rest) us
+unfolding lex gives goes ended both signAt
+blank r = record { is = rw (r .is) refl }
+
+pub newline : {rest : List ℕ} {us : List Token} → Lexes rest us → Lexes (10 ∷ rest) us
+unfolding lex gives goes ended both signAt
+newline r = record { is = rw (r .is) refl }
+
+pub blanks : {rest : List ℕ} {us : List Token} (n : ℕ) → Lexes rest us → Lexes (replicate n 32 ++ rest) us
+blanks zero r = r
+blanks (suc n) r = blank (blanks n r)
+
+pub nothing-more : Lexes [] []
+unfolding lex ended
+nothing-more = record { is = refl }
+
+-- signs need no blank behind them
+abbrev pub signKey : Key → Bool
+signKey SET = false
+signKey DO = false
+signKey TRIES = false
+signKey PAUSE = false
+signKey SLEEP = false
+signKey HEAR = false
+signKey FOR = false
+signKey IF = false
+signKey ELSE = false
+signKey WHILE = false
+signKey GUARD = false
+signKey RETURN = false
+signKey FAIL = false
+signKey NOT = false
+signKey OPEN = true
+signKey CLOSE = true
+signKey BEGIN = true
+signKey END = true
+signKey COMMA = true
+
+abbrev pub isSign : Token → Bool
+isSign (number n) = false
+isSign (variable v) = false
+isSign (name w) = false
+isSign (op o) = true
+isSign (key k) = signKey k
+
+key-back : {rest : List ℕ} {us : List Token} (k : Key) → (signKey k || apart rest) ≡ true → Lexes rest us → Lexes (spell k ++ rest) (key k ∷ us)
 unfolding spell signAt wordToken numberOf keyOf keyIn sameName orElse every
-key-back SET g rest = word-back′ (key SET) (spell SET) g rest (omega arith) refl refl
-key-back DO g rest = word-back′ (key DO) (spell DO) g rest (omega arith) refl refl
-key-back TRIES g rest = word-back′ (key TRIES) (spell TRIES) g rest (omega arith) refl refl
-key-back PAUSE g rest = word-back′ (key PAUSE) (spell PAUSE) g rest (omega arith) refl refl
-key-back SLEEP g rest = word-back′ (key SLEEP) (spell SLEEP) g rest (omega arith) refl refl
-key-back HEAR g rest = word-back′ (key HEAR) (spell HEAR) g rest (omega arith) refl refl
-key-back FOR g rest = word-back′ (key FOR) (spell FOR) g rest (omega arith) refl refl
-key-back IF g rest = word-back′ (key IF) (spell IF) g rest (omega arith) refl refl
-key-back ELSE g rest = word-back′ (key ELSE) (spell ELSE) g rest (omega arith) refl refl
-key-back WHILE g rest = word-back′ (key WHILE) (spell WHILE) g rest (omega arith) refl refl
-key-back GUARD g rest = word-back′ (key GUARD) (spell GUARD) g rest (omega arith) refl refl
-key-back RETURN g rest = word-back′ (key RETURN) (spell RETURN) g rest (omega arith) refl refl
-key-back FAIL g rest = word-back′ (key FAIL) (spell FAIL) g rest (omega arith) refl refl
-key-back NOT g rest = word-back′ (key NOT) (spell NOT) g rest (omega arith) refl refl
-key-back OPEN g rest = sign-back (key OPEN) 40 g rest refl refl refl
-key-back CLOSE g rest = sign-back (key CLOSE) 41 g rest refl refl refl
-key-back BEGIN g rest = sign-back (key BEGIN) 123 g rest refl refl refl
-key-back END g rest = sign-back (key END) 125 g rest refl refl refl
-key-back COMMA g rest = sign-back (key COMMA) 44 g rest refl refl refl
+key-back SET a r = word-back (key SET) (spell SET) (omega arith) refl refl a r
+key-back DO a r = word-back (key DO) (spell DO) (omega arith) refl refl a r
+key-back TRIES a r = word-back (key TRIES) (spell TRIES) (omega arith) refl refl a r
+key-back PAUSE a r = word-back (key PAUSE) (spell PAUSE) (omega arith) refl refl a r
+key-back SLEEP a r = word-back (key SLEEP) (spell SLEEP) (omega arith) refl refl a r
+key-back HEAR a r = word-back (key HEAR) (spell HEAR) (omega arith) refl refl a r
+key-back FOR a r = word-back (key FOR) (spell FOR) (omega arith) refl refl a r
+key-back IF a r = word-back (key IF) (spell IF) (omega arith) refl refl a r
+key-back ELSE a r = word-back (key ELSE) (spell ELSE) (omega arith) refl refl a r
+key-back WHILE a r = word-back (key WHILE) (spell WHILE) (omega arith) refl refl a r
+key-back GUARD a r = word-back (key GUARD) (spell GUARD) (omega arith) refl refl a r
+key-back RETURN a r = word-back (key RETURN) (spell RETURN) (omega arith) refl refl a r
+key-back FAIL a r = word-back (key FAIL) (spell FAIL) (omega arith) refl refl a r
+key-back NOT a r = word-back (key NOT) (spell NOT) (omega arith) refl refl a r
+key-back OPEN a r = sign-back (key OPEN) 40 refl refl refl r
+key-back CLOSE a r = sign-back (key CLOSE) 41 refl refl refl r
+key-back BEGIN a r = sign-back (key BEGIN) 123 refl refl refl r
+key-back END a r = sign-back (key END) 125 refl refl refl r
+key-back COMMA a r = sign-back (key COMMA) 44 refl refl refl r
 
-op-back : (o : Op) (g : Bool) (rest : List ℕ) → lex (word []) (spellOp o ++ (gap g ∷ rest)) ≡ both (tokens (op o ∷ [])) (lex (word []) rest)
+op-back : {rest : List ℕ} {us : List Token} (o : Op) → Lexes rest us → Lexes (spellOp o ++ rest) (op o ∷ us)
 unfolding spellOp signAt
-op-back PLUS g rest = sign-back (op PLUS) 43 g rest refl refl refl
-op-back MINUS g rest = sign-back (op MINUS) 45 g rest refl refl refl
-op-back TIMES g rest = sign-back (op TIMES) 42 g rest refl refl refl
-op-back LESS g rest = sign-back (op LESS) 60 g rest refl refl refl
-op-back SAME g rest = sign-back (op SAME) 61 g rest refl refl refl
+op-back PLUS r = sign-back (op PLUS) 43 refl refl refl r
+op-back MINUS r = sign-back (op MINUS) 45 refl refl refl r
+op-back TIMES r = sign-back (op TIMES) 42 refl refl refl r
+op-back LESS r = sign-back (op LESS) 60 refl refl refl r
+op-back SAME r = sign-back (op SAME) 61 refl refl refl r
 
-pub token-back : (t : Token) (g : Bool) (rest : List ℕ) → tokenOk t ≡ true → lex (word []) (spelled t ++ (gap g ∷ rest)) ≡ both (tokens (t ∷ [])) (lex (word []) rest)
+-- a token as it is spelled, and then the rest
+pub token-back : {rest : List ℕ} {us : List Token} (t : Token) → tokenOk t ≡ true → (isSign t || apart rest) ≡ true → Lexes rest us → Lexes (spelled t ++ rest) (t ∷ us)
 unfolding spelled tokenOk wordToken orElse every
-token-back (number n) g rest h =
+token-back (number n) h a r =
     let b : n < top = grind (arith, tells) in
-    word-back′ (number n) (decimal n) g rest (decimal-some n b) (digits-words (decimal n) (digits-decimal own n b)) (rw (number-spelled n b) refl)
-token-back (variable v) g rest h =
+    word-back (number n) (decimal n) (decimal-some n b) (digits-words (decimal n) (digits-decimal own n b)) (rw (number-spelled n b) refl) a r
+token-back (variable v) h a r =
     let s : v < 64 = grind (arith, tells) in
     let b : v < top = omega arith in
-    word-back (variable v) 118 (decimal v) g rest (digits-words (decimal v) (digits-decimal own v b)) (variable-spelled v s)
-token-back (name w) g rest h =
-    let a : wordOk w ≡ true = and-left (wordOk w) (isWrong (keyOf w)) h in
-    let e : every (λ (c : ℕ). leb 97 c && leb c 122) w ≡ true = and-right (nameOk w) (every (λ (c : ℕ). leb 97 c && leb c 122) w) a in
-    let n : nameOk w ≡ true = and-left (nameOk w) (every (λ (c : ℕ). leb 97 c && leb c 122) w) a in
+    word-back (variable v) (118 ∷ decimal v) (omega arith) (digits-words (decimal v) (digits-decimal own v b)) (variable-spelled v s) a r
+token-back (name w) h a r =
+    let i : wordOk w ≡ true = and-left (wordOk w) (isWrong (keyOf w)) h in
+    let e : every (λ (c : ℕ). leb 97 c && leb c 122) w ≡ true = and-right (nameOk w) (every (λ (c : ℕ). leb 97 c && leb c 122) w) i in
+    let n : nameOk w ≡ true = and-left (nameOk w) (every (λ (c : ℕ). leb 97 c && leb c 122) w) i in
     let l : ltb 0 (length w) ≡ true = and-left (ltb 0 (length w)) (leb (length w) 64) (and-left (ltb 0 (length w) && leb (length w) 64) (every (λ (b : ℕ). ltb b 256) w) n) in
     let q : 0 < length w = grind (arith, tells) in
-    word-back′ (name w) w g rest q (letters-words w e) (name-spelled w h)
-token-back (op o) g rest h = op-back o g rest
-token-back (key k) g rest h = key-back k g rest
-
--- what is written is read back
-pub spaced-back : (ts : List Token) (gs : List Bool) → every tokenOk ts ≡ true → tokensIn (spaced ts gs) ≡ tokens ts
-unfolding spaced every lex ended both
-spaced-back [] gs h = refl
-spaced-back (t ∷ ts) [] h = token-back t false (spaced ts []) (and-left (tokenOk t) (every tokenOk ts) h) ∙ rw (spaced-back ts [] (and-right (tokenOk t) (every tokenOk ts) h)) refl
-spaced-back (t ∷ ts) (g ∷ gs) h = token-back t g (spaced ts gs) (and-left (tokenOk t) (every tokenOk ts) h) ∙ rw (spaced-back ts gs (and-right (tokenOk t) (every tokenOk ts) h)) refl
+    word-back (name w) w q (letters-words w e) (name-spelled w h) a r
+token-back (op o) h a r = op-back o r
+token-back (key k) h a r = key-back k a r
 
 -- the tokens of a text are as tokenOk says
 abbrev AllOk : Lexed → Type 0

@@ -133,6 +133,7 @@ args-deep (some x y) = omega (arith, reads-deep x, more-deep y)
 
 mutual
   unfolding stmtDeep partDeep
+
   pub stmt-deep : {ts us : List Token} {s : Stmt} → IsStmt ts s us → stmtDeep s ≤ 256
   stmt-deep (set x) = reads-deep x
   stmt-deep (does x ok) = args-deep x
@@ -195,6 +196,7 @@ hear-ok v w n e h =
 
 mutual
   unfolding putStmt putPart stmtDeep partDeep stmtOk blockOk
+
   pub put-stmt : (s : Stmt) (us : List Token) → stmtOk s ≡ true → stmtDeep s ≤ 256 → IsStmt (putStmt s us) s us
   put-stmt (Set v e) us ok le = set (put-reads compare e 256 us le)
   put-stmt (Do v k es n p) us ok le = does (put-args es _ le) (do-ok v k es n p ok)
@@ -202,7 +204,7 @@ mutual
   put-stmt (Hear v w n e) us ok le = hear (hear-ok v w n e ok) (put-reads compare e 256 us le)
   put-stmt (If e a b) us ok le =
       if (put-reads compare e 256 _ (omega arith)) (put-part a _ (and-right (exprOk e) (blockOk a) (and-left (exprOk e && blockOk a) (blockOk b) ok)) (omega arith))
-        (put-part b _ (and-right (exprOk e && blockOk a) (blockOk b) ok) (omega arith))
+      (put-part b _ (and-right (exprOk e && blockOk a) (blockOk b) ok) (omega arith))
   put-stmt (While e a) us ok le = while (put-reads compare e 256 _ (omega arith)) (put-part a _ (and-right (exprOk e) (blockOk a) ok) (omega arith))
   put-stmt (Guard a b) us ok le = guard (put-part a _ (and-left (blockOk a) (blockOk b) ok) (omega arith)) (put-part b _ (and-right (blockOk a) (blockOk b) ok) (omega arith))
   put-stmt (Return e) us ok le = return (put-reads compare e 256 us le)

@@ -193,17 +193,17 @@ pub levels-sound : (d : ℕ) (p : Parser) → ((ts : List Token) → Holds (Read
 unfolding levels
 levels-sound d p ps =
     chain-sound compareOp (chainS sumOp (chainS productOp p)) (Reads sum d) (Reads compare d)
-      (chain-sound sumOp (chainS productOp p) (Reads product d) (Reads sum d)
-        (chain-sound productOp p (Reads unary d) (Reads product d) ps (λ ts e us x. factor x) (product-grow d))
-        (λ ts e us x. term x) (sum-grow d))
-      (λ ts e us x. side x) (compare-grow d)
+    (chain-sound sumOp (chainS productOp p) (Reads product d) (Reads sum d)
+    (chain-sound productOp p (Reads unary d) (Reads product d) ps (λ ts e us x. factor x) (product-grow d))
+    (λ ts e us x. term x) (sum-grow d))
+    (λ ts e us x. side x) (compare-grow d)
 
 bracket-sound : (d : ℕ) (p : ℕ → Parser) → ((c : ℕ) (ts : List Token) → Holds (Reads unary c ts) (p c ts)) → (ts : List Token) → Holds (Reads unary d (key OPEN ∷ ts)) (inBracket d p ts)
 unfolding inBracket
 bracket-sound zero p ps ts = tt
 bracket-sound (suc d) p ps ts =
     holds-and (Reads compare d ts) (Reads unary (suc d) (key OPEN ∷ ts)) (levels (p d) ts) _ (levels-sound d (p d) (ps d) ts)
-      (λ e us x. holds-after (Reads compare d ts e) (λ _. Reads unary (suc d) (key OPEN ∷ ts)) CLOSE us (got e) x (λ vs y. bracket y))
+    (λ e us x. holds-after (Reads compare d ts e) (λ _. Reads unary (suc d) (key OPEN ∷ ts)) CLOSE us (got e) x (λ vs y. bracket y))
 
 word-sound : (k : Key) (Q : List Token → Expr → List Token → Type 0) (ts : List Token) (f g : Got Expr) → Holds (Q (key NOT ∷ ts)) f → Holds (Q (key OPEN ∷ ts)) g → Holds (Q (key k ∷ ts)) (byWord k f g)
 unfolding byWord
@@ -237,8 +237,8 @@ unary-sound (suc n) d (name k ∷ ts) = tt
 unary-sound (suc n) d (op o ∷ ts) = tt
 unary-sound (suc n) d (key k ∷ ts) =
     word-sound k (λ us. Reads unary d us) ts _ _
-      (holds-and (Reads unary d ts) (Reads unary d (key NOT ∷ ts)) (unaryS n d ts) _ (unary-sound n d ts) (λ e us x. negation x))
-      (bracket-sound d (λ c. unaryS n c) (λ c us. unary-sound n c us) ts)
+    (holds-and (Reads unary d ts) (Reads unary d (key NOT ∷ ts)) (unaryS n d ts) _ (unary-sound n d ts) (λ e us x. negation x))
+    (bracket-sound d (λ c. unaryS n c) (λ c us. unary-sound n c us) ts)
 
 pub expr-sound : (ts : List Token) → Holds (IsExpr ts) (exprS ts)
 unfolding exprS

@@ -25,18 +25,18 @@ unfolding argsS
 args-sound zero ts = tt
 args-sound (suc n) ts =
     holds-cond (More ts) (closes ts) _ _
-      (holds-after (λ _. Unit {0}) More CLOSE ts _ tt (λ us _. close))
-      (holds-after (λ _. Unit {0}) More COMMA ts _ tt
-        (λ us _. holds-and (IsExpr us) (More (key COMMA ∷ us)) (exprS us) _ (expr-sound us)
-          (λ e vs x. holds-and (More vs) (More (key COMMA ∷ us)) (argsS n vs) _ (args-sound n vs) (λ es ws y. comma x y))))
+    (holds-after (λ _. Unit {0}) More CLOSE ts _ tt (λ us _. close))
+    (holds-after (λ _. Unit {0}) More COMMA ts _ tt
+    (λ us _. holds-and (IsExpr us) (More (key COMMA ∷ us)) (exprS us) _ (expr-sound us)
+    (λ e vs x. holds-and (More vs) (More (key COMMA ∷ us)) (argsS n vs) _ (args-sound n vs) (λ es ws y. comma x y))))
 
 pub list-sound : (ts : List Token) → Holds (Args ts) (listS ts)
 unfolding listS
 list-sound ts =
     holds-cond (Args ts) (closes ts) _ _
-      (holds-after (λ _. Unit {0}) Args CLOSE ts _ tt (λ us _. none))
-      (holds-and (IsExpr ts) (Args ts) (exprS ts) _ (expr-sound ts)
-        (λ e us x. holds-and (More us) (Args ts) (argsS (length us) us) _ (args-sound (length us) us) (λ es vs y. some x y)))
+    (holds-after (λ _. Unit {0}) Args CLOSE ts _ tt (λ us _. none))
+    (holds-and (IsExpr ts) (Args ts) (exprS ts) _ (expr-sound ts)
+    (λ e us x. holds-and (More us) (Args ts) (argsS (length us) us) _ (args-sound (length us) us) (λ es vs y. some x y)))
 
 do-sound : (v : ℕ) (ts : List Token) → Holds (IsStmt (variable v ∷ op SAME ∷ ts)) (doS v ts)
 unfolding doS
@@ -53,6 +53,7 @@ do-sound v ts =
   where
     U : List Token → Type 0
     U _ = Unit {0}
+
     Q : ℕ → List Token → Stmt → List Token → Type 0
     Q k t = IsStmt (variable v ∷ op SAME ∷ key DO ∷ number k ∷ key OPEN ∷ t)
 
@@ -137,8 +138,8 @@ unfolding blockS
 block-sound zero ts = tt
 block-sound (suc n) ts =
     holds-cond (IsPart ts) (ended ts) _ _ end
-      (holds-and (IsStmt ts) (IsPart ts) (stmtS (λ us. blockS n us) ts) _ (stmt-sound (λ us. blockS n us) (λ us. block-sound n us) ts)
-        (λ s us x. holds-and (IsPart us) (IsPart ts) (blockS n us) _ (block-sound n us) (λ b vs y. next x y)))
+    (holds-and (IsStmt ts) (IsPart ts) (stmtS (λ us. blockS n us) ts) _ (stmt-sound (λ us. blockS n us) (λ us. block-sound n us) ts)
+    (λ s us x. holds-and (IsPart us) (IsPart ts) (blockS n us) _ (block-sound n us) (λ b vs y. next x y)))
 
 pub plan-sound : (ts : List Token) (b : Block) → planS ts ≡ got b [] → IsPlan ts b
 unfolding planS

@@ -2,7 +2,7 @@
 use mathlib.Core.Path.{_≡_, refl, sym, _∙_, ap, subst, subst₂}
 use mathlib.Core.Logic.{_⊎_, inl, inr}
 use mathlib.Core.Bool.{Bool, true, false, cond, _&&_, _||_, not}
-use mathlib.Core.List.{List, [], _∷_, _++_}
+use mathlib.Core.List.{List, [], _∷_, _++_, append-assoc, append-nil}
 use Prim.Native.Nat.{ℕ, zero, suc, _+_, _-_, _*_, _<_, _≤_}
 use native.Mathlib.Nat.{le-refl}
 use native.Mathlib.Omega.{arith}
@@ -18,13 +18,13 @@ use Rattle.std.specs.Written.{decimal}
 use Rattle.std.proofs.shelf.Decimals.{length-decimal-le}
 use Rattle.plans.specs.Plan.{every, exprOk, stmtOk, blockOk, nameOk, wordOk, exprSize, sizes, stmtSize, sizeOf}
 use Rattle.text.specs.Parser.{planS}
-use Rattle.text.specs.Printer.{rank, wrap, fits, put, putMore, putArgs, putStmt, putPart, tokensOf, partDeep}
-use Rattle.text.specs.Lexer.{spell, spellOp, Lexed, wrong, tokens, keyOf, isWrong, top, tokensIn, tokenOk, spelled, gap, spaced}
-use Rattle.text.specs.Text.{IsText, Reading, nothing, plan, sized, whole, parsed, readText, stmtNamed, named, Sayable, gaps, textOf}
+use Rattle.text.specs.Printer.{rank, wrap, fits, put, putMore, putArgs, putStmt, putPart, tokensOf, partDeep, bracketed, between, exprText, moreText, argsText, indent, lineStmt, linesOf, textOf}
+use Rattle.text.specs.Lexer.{spell, spellOp, Lexed, wrong, tokens, keyOf, isWrong, top, tokensIn, tokenOk, spelled}
+use Rattle.text.specs.Text.{IsText, Reading, nothing, plan, sized, whole, parsed, readText, stmtNamed, named, Sayable}
 use Rattle.text.proofs.Printed.{and-left, and-right, and-both, part-deep, put-part}
 use Rattle.text.proofs.Completes.{plan-complete, one-plan}
 use Rattle.text.proofs.Sounds.{plan-sound}
-use Rattle.text.proofs.Lexed.{lexed-ok, spaced-back}
+use Rattle.text.proofs.Lexed.{lexed-ok, apart, Lexes, blank, newline, blanks, nothing-more, token-back}
 
 -- the reader answers exactly the plan of the text
 pub read-complete : (limit : ℕ) (bs : List ℕ) (b : Block) → IsText limit bs b → readText limit bs ≡ plan b
@@ -58,6 +58,7 @@ read-sound limit bs b h = go (leb (length bs) limit) refl h
     at : length bs ≤ limit → (r : Lexed) → tokensIn bs ≡ r → parsed r ≡ plan b → IsText limit bs b
     at l wrong e k = let z : _≡_ {A = ℕ} 0 1 = cc in absurd (omega arith)
     at l (tokens ts) e k = let r = whole-is (planS ts) b k in record { short = l; words = ts; lexed = e; plan = plan-sound ts b (r .0); size = r .1 }
+
     go : (c : Bool) → leb (length bs) limit ≡ c → cond c (parsed (tokensIn bs)) nothing ≡ plan b → IsText limit bs b
     go true e k = at (grind (arith, tells)) (tokensIn bs) refl k
     go false e k = let z : _≡_ {A = ℕ} 0 1 = cc in absurd (omega arith)
@@ -118,6 +119,7 @@ hear-fine v w n e a b c d f = rw (a, b, c, d, f) refl
 
 mutual
   unfolding stmtOk blockOk stmtNamed named tokenOk
+
   stmt-ok : {ts us : List Token} {s : Stmt} → IsStmt ts s us → Ok ts → (stmtOk s ≡ true) × (stmtNamed s ≡ true) × Ok us
   stmt-ok (set {v = v} x) h =
       let h1 = tail-ok (key SET) _ h in
@@ -150,45 +152,6 @@ pub sayable : (limit : ℕ) (bs : List ℕ) (b : Block) → IsText limit bs b �
 sayable limit bs b x =
     let r = part-ok (x .plan) (lexed-ok bs (x .words) (x .lexed)) in
     record { fine = r .0; names = r .1; flat = part-deep (x .plan); size = x .size }
-
--- the tokens that an ok plan is written as are ok
-cons-ok : (t : Token) (ts : List Token) → tokenOk t ≡ true → Ok ts → Ok (t ∷ ts)
-unfolding every
-cons-ok t ts h k = and-both (tokenOk t) (every tokenOk ts) h k
-
-key-ok : (k : Key) (ts : List Token) → Ok ts → Ok (key k ∷ ts)
-unfolding tokenOk
-key-ok k ts h = cons-ok (key k) ts refl h
-
-op-ok : (o : Op) (ts : List Token) → Ok ts → Ok (op o ∷ ts)
-unfolding tokenOk
-op-ok o ts h = cons-ok (op o) ts refl h
-
-wrap-ok : (b : Bool) (f : List Token → List Token) (us : List Token) → ((vs : List Token) → Ok vs → Ok (f vs)) → Ok us → Ok (wrap b f us)
-unfolding wrap
-wrap-ok true f us h k = h us k
-wrap-ok false f us h k = key-ok OPEN _ (h (key CLOSE ∷ us) (key-ok CLOSE us k))
-
-put-ok : (l : Level) (e : Expr) (us : List Token) → exprOk e ≡ true → Ok us → Ok (put l e us)
-unfolding put exprOk tokenOk
-put-ok l (Lit n) us h k = cons-ok (number n) us h k
-put-ok l (Var n) us h k = cons-ok (variable n) us h k
-put-ok l (Plus a b) us h k = wrap-ok _ _ us (λ vs q. put-ok sum a _ (and-left (exprOk a) (exprOk b) h) (op-ok PLUS _ (put-ok product b vs (and-right (exprOk a) (exprOk b) h) q))) k
-put-ok l (Minus a b) us h k = wrap-ok _ _ us (λ vs q. put-ok sum a _ (and-left (exprOk a) (exprOk b) h) (op-ok MINUS _ (put-ok product b vs (and-right (exprOk a) (exprOk b) h) q))) k
-put-ok l (Times a b) us h k = wrap-ok _ _ us (λ vs q. put-ok product a _ (and-left (exprOk a) (exprOk b) h) (op-ok TIMES _ (put-ok unary b vs (and-right (exprOk a) (exprOk b) h) q))) k
-put-ok l (Less a b) us h k = wrap-ok _ _ us (λ vs q. put-ok compare a _ (and-left (exprOk a) (exprOk b) h) (op-ok LESS _ (put-ok sum b vs (and-right (exprOk a) (exprOk b) h) q))) k
-put-ok l (Same a b) us h k = wrap-ok _ _ us (λ vs q. put-ok compare a _ (and-left (exprOk a) (exprOk b) h) (op-ok SAME _ (put-ok sum b vs (and-right (exprOk a) (exprOk b) h) q))) k
-put-ok l (Not a) us h k = key-ok NOT _ (put-ok unary a us h k)
-
-putMore-ok : (es : List Expr) (us : List Token) → every exprOk es ≡ true → Ok us → Ok (putMore es us)
-unfolding putMore every
-putMore-ok [] us h k = key-ok CLOSE us k
-putMore-ok (e ∷ es) us h k = key-ok COMMA _ (put-ok compare e _ (and-left (exprOk e) (every exprOk es) h) (putMore-ok es us (and-right (exprOk e) (every exprOk es) h) k))
-
-putArgs-ok : (es : List Expr) (us : List Token) → every exprOk es ≡ true → Ok us → Ok (putArgs es us)
-unfolding putArgs every
-putArgs-ok [] us h k = key-ok CLOSE us k
-putArgs-ok (e ∷ es) us h k = put-ok compare e _ (and-left (exprOk e) (every exprOk es) h) (putMore-ok es us (and-right (exprOk e) (every exprOk es) h) k)
 
 -- what Plan asks of a Do and of a Hear, taken apart
 pub record DoParts (v k : ℕ) (es : List Expr) (n p : ℕ) : Type 0 where
@@ -229,48 +192,109 @@ hear-parts v w n e h =
     let h3 = and-left (ltb v 64 && ltb w 64) (not (eqb v w)) h2 in
     record { var = and-left (ltb v 64) (ltb w 64) h3; came = and-right (ltb v 64) (ltb w 64) h3; word = p2; time = p1 }
 
-below-top : (a b : ℕ) → b ≤ top → ltb a b ≡ true → ltb a top ≡ true
-below-top a b h k = grind (arith, tells)
+-- what is written of an expression is its tokens
+bracket-back : {rest : List ℕ} {us : List Token} (b : Bool) (w : List ℕ) (f : List Token → List Token) →
+    ((bs : List ℕ) (ts : List Token) → apart bs ≡ true → Lexes bs ts → Lexes (w ++ bs) (f ts)) → apart rest ≡ true → Lexes rest us → Lexes (bracketed b w ++ rest) (wrap b f us)
+unfolding bracketed wrap spell spelled tokenOk
+bracket-back true w f h a r = h _ _ a r
+bracket-back false w f h a r = rw append-assoc (token-back (key OPEN) refl refl (h _ _ refl (token-back (key CLOSE) refl refl r)))
 
-number-ok : (n : ℕ) (us : List Token) → n < top → Ok us → Ok (number n ∷ us)
+between-back : {rest : List ℕ} {us : List Token} (o : Op) → Lexes rest us → Lexes (between o ++ rest) (op o ∷ us)
+unfolding between spelled tokenOk
+between-back o r = rw append-assoc (blank (token-back (op o) refl refl (blank r)))
+
+between-apart : (o : Op) (rest : List ℕ) → apart (between o ++ rest) ≡ true
+unfolding between
+between-apart o rest = refl
+
+expr-back : (l : Level) (e : Expr) {rest : List ℕ} {us : List Token} → exprOk e ≡ true → apart rest ≡ true → Lexes rest us → Lexes (exprText l e ++ rest) (put l e us)
+unfolding exprText put exprOk tokenOk spelled spell
+expr-back l (Lit n) h a r = token-back (number n) h a r
+expr-back l (Var v) h a r = token-back (variable v) h a r
+expr-back l (Plus x y) h a r =
+    bracket-back (fits sum l) _ _ (λ bs ts b q. rw (append-assoc, append-assoc) (expr-back sum x (and-left (exprOk x) (exprOk y) h) (between-apart PLUS _) (between-back PLUS (expr-back product y (and-right (exprOk x) (exprOk y) h) b q)))) a r
+expr-back l (Minus x y) h a r =
+    bracket-back (fits sum l) _ _ (λ bs ts b q. rw (append-assoc, append-assoc) (expr-back sum x (and-left (exprOk x) (exprOk y) h) (between-apart MINUS _) (between-back MINUS (expr-back product y (and-right (exprOk x) (exprOk y) h) b q)))) a r
+expr-back l (Times x y) h a r =
+    bracket-back (fits product l) _ _ (λ bs ts b q. rw (append-assoc, append-assoc) (expr-back product x (and-left (exprOk x) (exprOk y) h) (between-apart TIMES _) (between-back TIMES (expr-back unary y (and-right (exprOk x) (exprOk y) h) b q)))) a r
+expr-back l (Less x y) h a r =
+    bracket-back (fits compare l) _ _ (λ bs ts b q. rw (append-assoc, append-assoc) (expr-back compare x (and-left (exprOk x) (exprOk y) h) (between-apart LESS _) (between-back LESS (expr-back sum y (and-right (exprOk x) (exprOk y) h) b q)))) a r
+expr-back l (Same x y) h a r =
+    bracket-back (fits compare l) _ _ (λ bs ts b q. rw (append-assoc, append-assoc) (expr-back compare x (and-left (exprOk x) (exprOk y) h) (between-apart SAME _) (between-back SAME (expr-back sum y (and-right (exprOk x) (exprOk y) h) b q)))) a r
+expr-back l (Not x) h a r = token-back (key NOT) refl refl (blank (expr-back unary x h a r))
+
+more-apart : (es : List Expr) (rest : List ℕ) → apart rest ≡ true → apart (moreText es ++ rest) ≡ true
+unfolding moreText
+more-apart [] rest a = a
+more-apart (e ∷ es) rest a = refl
+
+more-back : {rest : List ℕ} {us : List Token} (es : List Expr) → every exprOk es ≡ true → Lexes rest us → Lexes (moreText es ++ (41 ∷ rest)) (putMore es us)
+unfolding moreText putMore every spelled spell tokenOk
+more-back [] h r = token-back (key CLOSE) refl refl r
+more-back {rest} (e ∷ es) h r =
+    simp append-assoc (token-back (key COMMA) refl refl (blank (expr-back compare e (and-left (exprOk e) (every exprOk es) h) (more-apart es (41 ∷ rest) refl) (more-back es (and-right (exprOk e) (every exprOk es) h) r))))
+
+args-back : {rest : List ℕ} {us : List Token} (es : List Expr) → every exprOk es ≡ true → Lexes rest us → Lexes (argsText es ++ (41 ∷ rest)) (putArgs es us)
+unfolding argsText putArgs every spelled spell tokenOk
+args-back [] h r = token-back (key CLOSE) refl refl r
+args-back {rest} (e ∷ es) h r = rw append-assoc (expr-back compare e (and-left (exprOk e) (every exprOk es) h) (more-apart es (41 ∷ rest) refl) (more-back es (and-right (exprOk e) (every exprOk es) h) r))
+
+small-ok : (n b : ℕ) → b ≤ top → ltb n b ≡ true → tokenOk (number n) ≡ true
 unfolding tokenOk
-number-ok n us h k = cons-ok (number n) us (grind (arith, tells)) k
+small-ok n b l h = grind (arith, tells)
+
+most-ok : (n b : ℕ) → b < top → leb n b ≡ true → tokenOk (number n) ≡ true
+unfolding tokenOk
+most-ok n b l h = grind (arith, tells)
+
+indented : {rest : List ℕ} {us : List Token} (d : ℕ) → Lexes rest us → Lexes (indent d ++ rest) us
+unfolding indent
+indented d r = blanks _ r
 
 mutual
-  unfolding putStmt putPart stmtOk blockOk stmtNamed named tokenOk
-  putStmt-ok : (s : Stmt) (us : List Token) → stmtOk s ≡ true → stmtNamed s ≡ true → Ok us → Ok (putStmt s us)
-  putStmt-ok (Set v e) us h m k = key-ok SET _ (cons-ok (variable v) _ (and-left (ltb v 64) (exprOk e) h) (op-ok SAME _ (put-ok compare e us (and-right (ltb v 64) (exprOk e) h) k)))
-  putStmt-ok (Do v k es n p) us h m q =
-      let d = do-parts v k es n p h in
-      let kk : k < top = let x = d .kind in grind (arith, tells) in
-      let nn : n < top = let x = d .tries in grind (arith, tells) in
-      let pp : p < top = let x = d .pause in grind (arith, tells) in
-      cons-ok (variable v) _ (d .var) (op-ok SAME _ (key-ok DO _ (number-ok k _ kk (key-ok OPEN _ (putArgs-ok es _ (d .args) (key-ok TRIES _ (number-ok n _ nn (key-ok PAUSE _ (number-ok p us pp q)))))))))
-  putStmt-ok (Sleep e) us h m k = key-ok SLEEP _ (put-ok compare e us h k)
-  putStmt-ok (Hear v w n e) us h m k =
-      let d = hear-parts v w n e h in
-      cons-ok (variable v) _ (d .var) (key-ok COMMA _ (cons-ok (variable w) _ (d .came) (op-ok SAME _ (key-ok HEAR _ (cons-ok (name n) _ (and-both _ _ (d .word) m) (key-ok FOR _ (put-ok compare e us (d .time) k)))))))
-  putStmt-ok (If e a b) us h m k =
+  unfolding lineStmt linesOf putStmt putPart stmtOk blockOk stmtNamed named tokenOk spelled spell spellOp
+
+  line-back : {rest : List ℕ} {us : List Token} (d : ℕ) (s : Stmt) → stmtOk s ≡ true → stmtNamed s ≡ true → Lexes rest us → Lexes (lineStmt d s ++ rest) (putStmt s us)
+  line-back d (Set v e) h m r =
+      simp append-assoc (indented d (token-back (key SET) refl refl (blank (token-back (variable v) (and-left (ltb v 64) (exprOk e) h) refl (blank (token-back (op SAME) refl refl (blank
+      (expr-back compare e (and-right (ltb v 64) (exprOk e) h) refl (newline r)))))))))
+  line-back d (Do v k es n p) h m r =
+      let a = do-parts v k es n p h in
+      simp append-assoc (indented d (token-back (variable v) (a .var) refl (blank (token-back (op SAME) refl refl (blank (token-back (key DO) refl refl (blank
+      (token-back (number k) (small-ok k 4294967296 (omega arith) (a .kind)) refl (blank (token-back (key OPEN) refl refl (args-back es (a .args) (blank (token-back (key TRIES) refl refl (blank
+      (token-back (number n) (most-ok n 32 (omega arith) (a .tries)) refl (blank (token-back (key PAUSE) refl refl (blank (token-back (number p) (most-ok p 86400000 (omega arith) (a .pause)) refl (newline r))))))))))))))))))))
+  line-back d (Sleep e) h m r = simp append-assoc (indented d (token-back (key SLEEP) refl refl (blank (expr-back compare e h refl (newline r)))))
+  line-back d (Hear v w n e) h m r =
+      let a = hear-parts v w n e h in
+      simp append-assoc (indented d (token-back (variable v) (a .var) refl (token-back (key COMMA) refl refl (blank (token-back (variable w) (a .came) refl (blank (token-back (op SAME) refl refl (blank
+      (token-back (key HEAR) refl refl (blank (token-back (name n) (and-both (wordOk n) (isWrong (keyOf n)) (a .word) m) refl (blank (token-back (key FOR) refl refl (blank (expr-back compare e (a .time) refl (newline r))))))))))))))))
+  line-back d (If e a b) h m r =
       let h1 = and-left (exprOk e && blockOk a) (blockOk b) h in
-      key-ok IF _ (put-ok compare e _ (and-left (exprOk e) (blockOk a) h1) (key-ok BEGIN _ (putPart-ok a _ (and-right (exprOk e) (blockOk a) h1) (and-left (named a) (named b) m)
-        (key-ok END _ (key-ok ELSE _ (key-ok BEGIN _ (putPart-ok b _ (and-right (exprOk e && blockOk a) (blockOk b) h) (and-right (named a) (named b) m) (key-ok END us k))))))))
-  putStmt-ok (While e a) us h m k = key-ok WHILE _ (put-ok compare e _ (and-left (exprOk e) (blockOk a) h) (key-ok BEGIN _ (putPart-ok a _ (and-right (exprOk e) (blockOk a) h) m (key-ok END us k))))
-  putStmt-ok (Guard a b) us h m k =
-      key-ok GUARD _ (key-ok BEGIN _ (putPart-ok a _ (and-left (blockOk a) (blockOk b) h) (and-left (named a) (named b) m)
-        (key-ok END _ (key-ok ELSE _ (key-ok BEGIN _ (putPart-ok b _ (and-right (blockOk a) (blockOk b) h) (and-right (named a) (named b) m) (key-ok END us k)))))))
-  putStmt-ok (Return e) us h m k = key-ok RETURN _ (put-ok compare e us h k)
-  putStmt-ok FailNow us h m k = key-ok FAIL us k
+      simp append-assoc (indented d (token-back (key IF) refl refl (blank (expr-back compare e (and-left (exprOk e) (blockOk a) h1) refl (blank (token-back (key BEGIN) refl refl (newline
+      (lines-back (suc d) a (and-right (exprOk e) (blockOk a) h1) (and-left (named a) (named b) m) (indented d (token-back (key END) refl refl (blank (token-back (key ELSE) refl refl (blank (token-back (key BEGIN) refl refl (newline
+      (lines-back (suc d) b (and-right (exprOk e && blockOk a) (blockOk b) h) (and-right (named a) (named b) m) (indented d (token-back (key END) refl refl (newline r)))))))))))))))))))
+  line-back d (While e a) h m r =
+      simp append-assoc (indented d (token-back (key WHILE) refl refl (blank (expr-back compare e (and-left (exprOk e) (blockOk a) h) refl (blank (token-back (key BEGIN) refl refl (newline
+      (lines-back (suc d) a (and-right (exprOk e) (blockOk a) h) m (indented d (token-back (key END) refl refl (newline r)))))))))))
+  line-back d (Guard a b) h m r =
+      simp append-assoc (indented d (token-back (key GUARD) refl refl (blank (token-back (key BEGIN) refl refl (newline
+      (lines-back (suc d) a (and-left (blockOk a) (blockOk b) h) (and-left (named a) (named b) m) (indented d (token-back (key END) refl refl (blank (token-back (key ELSE) refl refl (blank (token-back (key BEGIN) refl refl (newline
+      (lines-back (suc d) b (and-right (blockOk a) (blockOk b) h) (and-right (named a) (named b) m) (indented d (token-back (key END) refl refl (newline r)))))))))))))))))
+  line-back d (Return e) h m r = simp append-assoc (indented d (token-back (key RETURN) refl refl (blank (expr-back compare e h refl (newline r)))))
+  line-back d FailNow h m r = simp append-assoc (indented d (token-back (key FAIL) refl refl (newline r)))
 
-  putPart-ok : (b : Block) (us : List Token) → blockOk b ≡ true → named b ≡ true → Ok us → Ok (putPart b us)
-  putPart-ok done us h m k = k
-  putPart-ok (then s b) us h m k = putStmt-ok s (putPart b us) (and-left (stmtOk s) (blockOk b) h) (and-left (stmtNamed s) (named b) m) (putPart-ok b us (and-right (stmtOk s) (blockOk b) h) (and-right (stmtNamed s) (named b) m) k)
+  lines-back : {rest : List ℕ} {us : List Token} (d : ℕ) (b : Block) → blockOk b ≡ true → named b ≡ true → Lexes rest us → Lexes (linesOf d b ++ rest) (putPart b us)
+  lines-back d done h m r = r
+  lines-back d (then s b) h m r =
+      rw append-assoc (line-back d s (and-left (stmtOk s) (blockOk b) h) (and-left (stmtNamed s) (named b) m) (lines-back d b (and-right (stmtOk s) (blockOk b) h) (and-right (stmtNamed s) (named b) m) r))
 
--- a sayable plan is read from any layout of its tokens that is short enough
-pub laid-out : (limit : ℕ) (b : Block) (gs : List Bool) → Sayable b → length (spaced (tokensOf b) gs) ≤ limit → IsText limit (spaced (tokensOf b) gs) b
-unfolding every
-laid-out limit b gs s l =
-    record { short = l; words = tokensOf b; lexed = spaced-back (tokensOf b) gs (putPart-ok b [] (s .fine) (s .names) refl); plan = put-part b [] (s .fine) (s .flat); size = s .size }
+-- what is printed of a sayable plan is a text of it
+pub printed-is : (limit : ℕ) (b : Block) → Sayable b → length (textOf b) ≤ limit → IsText limit (textOf b) b
+printed-is limit b s l =
+    let r : Lexes (textOf b ++ []) (tokensOf b) = lines-back 0 b (s .fine) (s .names) nothing-more in
+    let e : tokensIn (textOf b) ≡ tokens (tokensOf b) = rw append-nil at (r .is) in
+    record { short = l; words = tokensOf b; lexed = e; plan = put-part b [] (s .fine) (s .flat); size = s .size }
 
 -- what is printed of a plan that was read is read as the same plan
 pub reprinted : (limit : ℕ) (bs : List ℕ) (b : Block) → IsText limit bs b → length (textOf b) ≤ limit → readText limit (textOf b) ≡ plan b
-reprinted limit bs b x l = read-complete limit (textOf b) b (laid-out limit b (gaps b []) (sayable limit bs b x) l)
+reprinted limit bs b x l = read-complete limit (textOf b) b (printed-is limit b (sayable limit bs b x) l)

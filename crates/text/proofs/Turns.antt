@@ -18,7 +18,7 @@ use Rattle.plans.specs.Plan.{every}
 use Rattle.text.specs.Token.{Token}
 use Rattle.text.specs.Lexer.{Lexed, wrong, tokens, both, ended, wordByte, signAt, Mode, word, remark, goes, gives, lex, tokensIn}
 use Rattle.text.specs.Gaps.{goesOn, inRemark, modeOf}
-use Rattle.text.proofs.Lexed.{both-nil}
+use Rattle.text.proofs.Lexed.{both-nil, word-stop, word-end}
 
 gap-word : (b : ℕ) → goesOn false b ≡ true → wordByte b ≡ false
 gap-word b h = grind (arith, tells)
@@ -49,30 +49,9 @@ pub gap-end : (text : List ℕ) (pos : ℕ) (r : Bool) → length text ≤ pos �
 gap-end text pos r l = rw (drop-all pos text l) (sym (mode-end r))
 
 -- words
-pub both-assoc : (r s t : Lexed) → both (both r s) t ≡ both r (both s t)
-unfolding both
-both-assoc wrong s t = refl
-both-assoc (tokens xs) wrong t = refl
-both-assoc (tokens xs) (tokens ys) wrong = refl
-both-assoc (tokens xs) (tokens ys) (tokens zs) = ap tokens (append-assoc xs ys zs)
-
 word-byte : (w : List ℕ) (b : ℕ) (bs : List ℕ) → wordByte b ≡ true → lex (word (w ++ (b ∷ []))) bs ≡ lex (word w) (b ∷ bs)
 unfolding lex gives goes
 word-byte w b bs h = rw (h, both-nil) refl
-
-word-stop : (w : List ℕ) (b : ℕ) (bs : List ℕ) → wordByte b ≡ false → both (ended w) (lex (word []) (b ∷ bs)) ≡ lex (word w) (b ∷ bs)
-unfolding lex gives goes ended
-word-stop w b bs h = rw (h, both-nil, both-assoc) refl
-
-pub both-none : (r : Lexed) → both r (tokens []) ≡ r
-unfolding both
-both-none wrong = refl
-both-none (tokens ts) = ap tokens (append-nil ts)
-
-word-end : (w : List ℕ) → both (ended w) (lex (word []) []) ≡ lex (word w) []
-unfolding lex ended
-word-end [] = both-nil (tokens [])
-word-end (b ∷ bs) = both-none _
 
 pub word-turn : (text : List ℕ) (from pos : ℕ) → from ≤ pos → pos < length text → wordByte (getD text pos 0) ≡ true →
     lex (word (take (pos + 1 - from) (drop from text))) (drop (pos + 1) text) ≡ lex (word (take (pos - from) (drop from text))) (drop pos text)
@@ -81,7 +60,7 @@ word-turn text from pos f l h =
     let i : from + (pos - from) ≡ pos = omega arith in
     let g : getD (drop from text) (pos - from) 0 ≡ getD text pos 0 = getD-drop from text (pos - from) 0 ∙ ap (λ (k : ℕ). getD text k 0) i in
     let m : take (pos + 1 - from) (drop from text) ≡ take (pos - from) (drop from text) ++ (getD text pos 0 ∷ []) =
-      ap (λ (k : ℕ). take k (drop from text)) e ∙ (take-more (drop from text) (pos - from) 0 (simp length-drop (omega arith)) ∙ ap (λ (k : ℕ). take (pos - from) (drop from text) ++ (k ∷ [])) g) in
+    ap (λ (k : ℕ). take k (drop from text)) e ∙ (take-more (drop from text) (pos - from) 0 (simp length-drop (omega arith)) ∙ ap (λ (k : ℕ). take (pos - from) (drop from text) ++ (k ∷ [])) g) in
     rw (m, drop-cons text pos 0 l, add-one) (word-byte (take (pos - from) (drop from text)) (getD text pos 0) (drop (suc pos) text) h)
 
 pub word-stops : (text w : List ℕ) (pos : ℕ) → pos < length text → wordByte (getD text pos 0) ≡ false → both (ended w) (tokensIn (drop pos text)) ≡ lex (word w) (drop pos text)
@@ -89,3 +68,10 @@ word-stops text w pos l h = rw (drop-cons text pos 0 l) (word-stop w (getD text 
 
 pub word-ends : (text w : List ℕ) (pos : ℕ) → length text ≤ pos → both (ended w) (tokensIn (drop pos text)) ≡ lex (word w) (drop pos text)
 word-ends text w pos l = rw (drop-all pos text l) (word-end w)
+
+-- the first byte of a word
+pub word-begins : (text : List ℕ) (from : ℕ) → from < length text → wordByte (getD text from 0) ≡ true →
+    lex (word (take (from + 1 - from) (drop from text))) (drop (from + 1) text) ≡ tokensIn (drop from text)
+word-begins text from l h =
+    let z : from - from ≡ 0 = omega arith in
+    word-turn text from from (le-refl _) l h ∙ ap (λ (k : ℕ). lex (word (take k (drop from text))) (drop from text)) z

@@ -151,14 +151,3 @@ spelled (variable v) = 118 ∷ decimal v
 spelled (name w) = w
 spelled (op o) = spellOp o
 spelled (key k) = spell k
-
--- a line end or a space
-abbrev pub gap : Bool → ℕ
-gap true = 10
-gap false = 32
-
--- tokens one after the other, each with a line end or a space behind it, as the gaps say
-unfoldable pub spaced : List Token → List Bool → List ℕ
-spaced [] gs = []
-spaced (t ∷ ts) [] = spelled t ++ (32 ∷ spaced ts [])
-spaced (t ∷ ts) (g ∷ gs) = spelled t ++ (gap g ∷ spaced ts gs)

@@ -8,5 +8,5 @@ pub mod Promise
 pub mod Reference
 pub mod Gaps
 pub mod Numbers
-pub mod Signs
 pub mod Words
+pub mod Ahead

@@ -1,13 +1,16 @@
--- The tokens that a plan is written as, with brackets only where they are needed. Assumes nothing.
+-- What a plan is written as: its tokens, with brackets only where they are needed, and its text, one statement a line. Assumes nothing.
 use mathlib.Core.Path.{_≡_}
 use mathlib.Core.Bool.{Bool, true, false, cond, _&&_, _||_, not}
 use mathlib.Core.List.{List, [], _∷_, _++_}
-use Prim.Native.Nat.{ℕ, zero, suc, _+_, _*_, _<_, _≤_, max}
+use Prim.Native.Nat.{ℕ, zero, suc, _+_, _*_, _<_, _≤_, max, min}
 use lib.Dec.{eqb, ltb, leb}
-use lib.ListN.{length}
+use lib.ListN.{length, replicate}
+use lib.Chars.{codes}
+use Rattle.std.specs.Written.{decimal}
 use Rattle.plans.specs.Plan.{Name, Expr, Lit, Var, Plus, Minus, Times, Less, Same, Not, Stmt, Set, Do, Sleep, Hear, If, While, Guard, Return, FailNow, Block, done, then}
 use Rattle.text.specs.Token.{Key, SET, DO, TRIES, PAUSE, SLEEP, HEAR, FOR, IF, ELSE, WHILE, GUARD, RETURN, FAIL, NOT, OPEN, CLOSE, BEGIN, END, COMMA, Op, PLUS, MINUS, TIMES, LESS, SAME, Token, number, variable, name, op, key}
 use Rattle.text.specs.Grammar.{Level, unary, product, sum, compare}
+use Rattle.text.specs.Lexer.{spellOp}
 
 abbrev pub rank : Level → ℕ
 rank unary = 0
@@ -61,6 +64,66 @@ unfoldable mutual
 abbrev pub tokensOf : Block → List Token
 tokensOf b = putPart b []
 
+-- The text. Brackets stand tight; an operation has a space on each side.
+unfoldable pub bracketed : Bool → List ℕ → List ℕ
+bracketed true w = w
+bracketed false w = 40 ∷ (w ++ (41 ∷ []))
+
+unfoldable pub between : Op → List ℕ
+between o = 32 ∷ (spellOp o ++ (32 ∷ []))
+
+-- an expression, where one of level l is wanted
+unfoldable pub exprText : Level → Expr → List ℕ
+exprText l (Lit n) = decimal n
+exprText l (Var v) = codes "v" ++ decimal v
+exprText l (Plus a b) = bracketed (fits sum l) (exprText sum a ++ (between PLUS ++ exprText product b))
+exprText l (Minus a b) = bracketed (fits sum l) (exprText sum a ++ (between MINUS ++ exprText product b))
+exprText l (Times a b) = bracketed (fits product l) (exprText product a ++ (between TIMES ++ exprText unary b))
+exprText l (Less a b) = bracketed (fits compare l) (exprText compare a ++ (between LESS ++ exprText sum b))
+exprText l (Same a b) = bracketed (fits compare l) (exprText compare a ++ (between SAME ++ exprText sum b))
+exprText l (Not a) = codes "not " ++ exprText unary a
+
+-- the arguments of a task behind the first of them, and all of them
+unfoldable pub moreText : List Expr → List ℕ
+moreText [] = []
+moreText (e ∷ es) = codes ", " ++ (exprText compare e ++ moreText es)
+
+unfoldable pub argsText : List Expr → List ℕ
+argsText [] = []
+argsText (e ∷ es) = exprText compare e ++ moreText es
+
+-- the end of a line, and its beginning: four spaces for each part that it is in, for up to 32 of them
+abbrev pub eol : List ℕ
+eol = 10 ∷ []
+
+unfoldable pub indent : ℕ → List ℕ
+indent d = replicate (4 * min d 32) 32
+
+-- the lines of a statement, and of a part, inside so many parts
+unfoldable mutual
+  pub lineStmt : ℕ → Stmt → List ℕ
+  lineStmt d (Set v e) = indent d ++ (codes "set v" ++ (decimal v ++ (codes " = " ++ (exprText compare e ++ eol))))
+  lineStmt d (Do v k es n p) =
+      indent d ++ (codes "v" ++ (decimal v ++ (codes " = do " ++ (decimal k ++ (codes " (" ++ (argsText es ++ (codes ") tries " ++ (decimal n ++ (codes " pause " ++ (decimal p ++ eol))))))))))
+  lineStmt d (Sleep e) = indent d ++ (codes "sleep " ++ (exprText compare e ++ eol))
+  lineStmt d (Hear v w n e) =
+      indent d ++ (codes "v" ++ (decimal v ++ (codes ", v" ++ (decimal w ++ (codes " = hear " ++ (n ++ (codes " for " ++ (exprText compare e ++ eol))))))))
+  lineStmt d (If e a b) =
+      indent d ++ (codes "if " ++ (exprText compare e ++ (codes " {" ++ (eol ++ (linesOf (suc d) a ++ (indent d ++ (codes "} else {" ++ (eol ++ (linesOf (suc d) b ++ (indent d ++ (codes "}" ++ eol)))))))))))
+  lineStmt d (While e a) = indent d ++ (codes "while " ++ (exprText compare e ++ (codes " {" ++ (eol ++ (linesOf (suc d) a ++ (indent d ++ (codes "}" ++ eol)))))))
+  lineStmt d (Guard a b) =
+      indent d ++ (codes "guard {" ++ (eol ++ (linesOf (suc d) a ++ (indent d ++ (codes "} else {" ++ (eol ++ (linesOf (suc d) b ++ (indent d ++ (codes "}" ++ eol)))))))))
+  lineStmt d (Return e) = indent d ++ (codes "return " ++ (exprText compare e ++ eol))
+  lineStmt d FailNow = indent d ++ (codes "fail" ++ eol)
+
+  pub linesOf : ℕ → Block → List ℕ
+  linesOf d done = []
+  linesOf d (then s b) = lineStmt d s ++ linesOf d b
+
+-- the text of a plan
+abbrev pub textOf : Block → List ℕ
+textOf b = linesOf 0 b
+
 -- how deep the brackets are nested that this writes
 unfoldable pub inside : Bool → ℕ → ℕ
 inside true n = n
@@ -95,4 +158,3 @@ unfoldable mutual
   pub partDeep : Block → ℕ
   partDeep done = 0
   partDeep (then s b) = max (stmtDeep s) (partDeep b)
-

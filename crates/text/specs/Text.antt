@@ -6,11 +6,11 @@ use Prim.Native.Nat.{ℕ, zero, suc, _+_, _*_, _<_, _≤_}
 use lib.Dec.{eqb, ltb, leb}
 use lib.ListN.{length}
 use Rattle.plans.specs.Plan.{Name, Expr, Stmt, Set, Do, Sleep, Hear, If, While, Guard, Return, FailNow, Block, done, then, sizeOf, blockOk}
-use Rattle.text.specs.Token.{TRIES, PAUSE, BEGIN, Token, number, key, Got, fails, got}
-use Rattle.text.specs.Grammar.{IsPlan, compare}
+use Rattle.text.specs.Token.{Token, Got, fails, got}
+use Rattle.text.specs.Grammar.{IsPlan}
 use Rattle.text.specs.Parser.{planS}
-use Rattle.text.specs.Printer.{tokensOf, put, putArgs, partDeep}
-use Rattle.text.specs.Lexer.{Lexed, wrong, tokens, tokensIn, keyOf, isWrong, spaced}
+use Rattle.text.specs.Printer.{partDeep}
+use Rattle.text.specs.Lexer.{Lexed, wrong, tokens, tokensIn, keyOf, isWrong}
 
 -- bs is a text of the plan b, of at most `limit` bytes
 pub record IsText (limit : ℕ) (bs : List ℕ) (b : Block) : Type 0 where
@@ -62,29 +62,3 @@ pub record Sayable (b : Block) : Type 0 where
   pub names : named b ≡ true
   pub flat : partDeep b ≤ 256
   pub size : sizeOf b ≤ 4096
-
--- spaces between these tokens, and a line end behind the last
-unfoldable pub spacesFor : List Token → List Bool → List Bool
-spacesFor [] gs = gs
-spacesFor (t ∷ []) gs = true ∷ gs
-spacesFor (t ∷ u ∷ ts) gs = false ∷ spacesFor (u ∷ ts) gs
-
--- a line end behind each statement, and behind the brace that begins or ends a part
-unfoldable mutual
-  pub stmtGaps : Stmt → List Bool → List Bool
-  stmtGaps (Set v e) gs = false ∷ false ∷ false ∷ spacesFor (put compare e []) gs
-  stmtGaps (Do v k es n p) gs = false ∷ false ∷ false ∷ false ∷ false ∷ spacesFor (putArgs es (key TRIES ∷ number n ∷ key PAUSE ∷ number p ∷ [])) gs
-  stmtGaps (Sleep e) gs = false ∷ spacesFor (put compare e []) gs
-  stmtGaps (Hear v w n e) gs = false ∷ false ∷ false ∷ false ∷ false ∷ false ∷ false ∷ spacesFor (put compare e []) gs
-  stmtGaps (If e a b) gs = false ∷ spacesFor (put compare e (key BEGIN ∷ [])) (gaps a (false ∷ false ∷ true ∷ gaps b (true ∷ gs)))
-  stmtGaps (While e a) gs = false ∷ spacesFor (put compare e (key BEGIN ∷ [])) (gaps a (true ∷ gs))
-  stmtGaps (Guard a b) gs = false ∷ true ∷ gaps a (false ∷ false ∷ true ∷ gaps b (true ∷ gs))
-  stmtGaps (Return e) gs = false ∷ spacesFor (put compare e []) gs
-  stmtGaps FailNow gs = true ∷ gs
-
-  pub gaps : Block → List Bool → List Bool
-  gaps done gs = gs
-  gaps (then s b) gs = stmtGaps s (gaps b gs)
-
-abbrev pub textOf : Block → List ℕ
-textOf b = spaced (tokensOf b) (gaps b [])

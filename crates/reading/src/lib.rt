@@ -1,0 +1,3 @@
+// Reading: from the text of a plan to its draft.
+pub mod error;
+mod tokens;
