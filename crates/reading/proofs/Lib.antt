@@ -1,1 +1,4 @@
+pub mod Chains
+pub mod Leveled
+pub mod Fours
 pub mod Taking

@@ -1,3 +1,4 @@
 // Reading: from the text of a plan to its draft.
 pub mod error;
+mod exprs;
 mod tokens;
