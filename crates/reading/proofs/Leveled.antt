@@ -6,7 +6,7 @@ use Prim.Native.Nat.{ℕ, zero, suc, _+_, _-_, _*_, _/_, _<_, _≤_}
 use native.Mathlib.Omega.{arith}
 use native.Mathlib.Nat.{le-refl, le-trans}
 use lib.Dec.{eqb}
-use lib.ListN.{length, take, length-append}
+use lib.ListN.{length, take, drop, length-append}
 use lib.Seq.{length-take-le}
 use Rattle.std.proofs.shelf.Tests.{false≢true}
 use Rattle.std.specs.declared.option.Option.{Option}
@@ -19,6 +19,9 @@ use Rattle.text.specs.Token as token
 use Rattle.text.specs.Lexer.{Lexed, wrong, tokens, both}
 use Rattle.text.specs.Parser.{andThen, Parser, Join, joins, ends, onJoin, productOp, sumOp, compareOp, moreS, chainS, unaryS, levels, inBracket, byWord, after}
 use Rattle.text.specs.Ahead.{ahead, keyMeant, operatorMeant, means, meant, taken, stops}
+use Rattle.std.specs.declared.result.Result.{Result}
+use Rattle.std.specs.declared.result.Result.the-variants.{Ok, Err}
+use Rattle.text.specs.declared.Lexeme.{Lexeme}
 use Rattle.text.specs.declared.Token.{Token}
 use Rattle.text.specs.declared.Token.the-variants as is
 use Rattle.text.specs.declared.Operator.{Operator}
@@ -27,12 +30,14 @@ use Rattle.text.specs.declared.Key.{Key}
 use Rattle.text.specs.declared.Key.the-variants as word
 use Rattle.reading.specs.declared.exprs.Level.{Level}
 use Rattle.reading.specs.declared.exprs.Level.the-variants.{Compare, Sum, Product, Unary}
+use Rattle.reading.specs.declared.error.NoPlan.{NoPlan}
+use Rattle.reading.specs.declared.exprs.Cursor.{Cursor}
 use Rattle.reading.specs.declared.exprs.Opening.{Opening}
 use Rattle.reading.specs.declared.exprs.Opening.the-variants as opening
 use Rattle.reading.specs.Took.{Family, Took, found, Only, Bars, bars}
 use Rattle.reading.specs.Took as took
 use Rattle.reading.specs.Tokens.{oneKey}
-use Rattle.reading.specs.Levels.{belowOf, isUnary, joinAt, parserAt, exprAt, moreAt, onlyAt, joinsAt, kindOf, build, keyOpens, opensAt, NoRoom}
+use Rattle.reading.specs.Levels.{belowOf, isUnary, joinAt, parserAt, exprAt, moreAt, onlyAt, joinsAt, kindOf, build, keyOpens, opensAt, NoRoom, Further, Leaf, ReadExpr}
 use Rattle.reading.proofs.Taking.{take-token, bar-token, bar-stop, bar-bad}
 use Rattle.reading.proofs.Chains.{Gives, Leaves, prefix, prefix-bar, bind, bind-bar, rename-bar, took-bar, only-then, only-at, and-at}
 
@@ -287,7 +292,7 @@ more-took level d o e b f q h x y =
 rest-bar : (level : Level) (d : ℕ) (o : Operator) (e : Expr) (Big : Expr → Type 0) {l m : Lexed} → joinAt level (op (operatorMeant o)) ≡ joins (build o) → l ≡ both (tokens (op (operatorMeant o) ∷ [])) m → Bars (restAt level d o e) Big m → Bars (moreAt level d e) Big l
 rest-bar level d o e Big q h x = prefix-bar (restAt level d o e) (moreAt level d e) (op (operatorMeant o)) Big Big h x (λ us g n i j k. only-at _ _ _ (more-is level d o e n i us q) (g (suc n) i (omega arith) k))
 
-build-size : (o : Operator) (a b : Expr) → exprSize (build o a b) ≡ 1 + (exprSize a + exprSize b)
+pub build-size : (o : Operator) (a b : Expr) → exprSize (build o a b) ≡ 1 + (exprSize a + exprSize b)
 unfolding exprSize
 build-size by.Plus a b = refl
 build-size by.Minus a b = refl
@@ -451,3 +456,98 @@ pub pair-words : (zs ys xs pre : List ℕ) (o : Operator) (e b : Expr) (n m u : 
 pair-words zs ys xs pre o e b n m u h k q r =
     q ∙ (ap (λ (l : List ℕ). l ++ (kindOf o ∷ u ∷ 0 ∷ 0 ∷ [])) (k ∙ ap (λ (l : List ℕ). l ++ codeOf b) h) ∙
     (append-assoc (pre ++ codeOf e) (codeOf b) _ ∙ (append-assoc pre (codeOf e) _ ∙ (rw r (ap (λ (l : List ℕ). pre ++ l) (sym (build-code o e b)))))))
+
+pub suc-pred : (n : ℕ) → (n ≡ 0 → ⊥) → suc (n - 1) ≡ n
+suc-pred zero h = absurd (h refl)
+suc-pred (suc n) h = omega arith
+
+pub units-are : (m n u : ℕ) → m ≡ n + 4 * u → (m - n) / 4 ≡ u
+units-are m n u h = omega arith
+
+pub not-size : (e : Expr) → exprSize (Not e) ≡ 1 + exprSize e
+unfolding exprSize
+not-size e = refl
+
+pub none-of : {X : Type 0} (o : Option X) → ((x : X) → o ≡ Some x → ⊥) → o ≡ None
+none-of (Some x) h = absurd (h x refl)
+none-of None h = refl
+
+pub op-ahead : (text : List ℕ) (from : ℕ) (r : Lexeme) (o : Operator) → ahead text from ≡ both (meant text r) (ahead text (r .next)) → r .token ≡ is.Operator o → ahead text from ≡ both (tokens (op (operatorMeant o) ∷ [])) (ahead text (r .next))
+op-ahead text from r o h e = h ∙ ap (λ (x : Token). both (means x (take (r .next - r .start) (drop (r .start) text))) (ahead text (r .next))) e
+
+pub opens-n : (t : Token) (n : ℕ) → opensAt t ≡ opening.Number n → t ≡ is.Number n
+opens-n (is.Number x) n h = let e : x ≡ n = cc in ap is.Number e
+opens-n (is.Variable x) n h = let z : _≡_ {A = ℕ} 0 1 = cc in absurd (omega arith)
+opens-n is.Name n h = let z : _≡_ {A = ℕ} 0 1 = cc in absurd (omega arith)
+opens-n (is.Operator o) n h = let z : _≡_ {A = ℕ} 0 1 = cc in absurd (omega arith)
+opens-n is.Stop n h = let z : _≡_ {A = ℕ} 0 1 = cc in absurd (omega arith)
+opens-n is.Bad n h = let z : _≡_ {A = ℕ} 0 1 = cc in absurd (omega arith)
+opens-n (is.Key word.Set) n h = let z : _≡_ {A = ℕ} 0 1 = cc in absurd (omega arith)
+opens-n (is.Key word.Do) n h = let z : _≡_ {A = ℕ} 0 1 = cc in absurd (omega arith)
+opens-n (is.Key word.Tries) n h = let z : _≡_ {A = ℕ} 0 1 = cc in absurd (omega arith)
+opens-n (is.Key word.Pause) n h = let z : _≡_ {A = ℕ} 0 1 = cc in absurd (omega arith)
+opens-n (is.Key word.Sleep) n h = let z : _≡_ {A = ℕ} 0 1 = cc in absurd (omega arith)
+opens-n (is.Key word.Hear) n h = let z : _≡_ {A = ℕ} 0 1 = cc in absurd (omega arith)
+opens-n (is.Key word.For) n h = let z : _≡_ {A = ℕ} 0 1 = cc in absurd (omega arith)
+opens-n (is.Key word.If) n h = let z : _≡_ {A = ℕ} 0 1 = cc in absurd (omega arith)
+opens-n (is.Key word.Else) n h = let z : _≡_ {A = ℕ} 0 1 = cc in absurd (omega arith)
+opens-n (is.Key word.While) n h = let z : _≡_ {A = ℕ} 0 1 = cc in absurd (omega arith)
+opens-n (is.Key word.Guard) n h = let z : _≡_ {A = ℕ} 0 1 = cc in absurd (omega arith)
+opens-n (is.Key word.Return) n h = let z : _≡_ {A = ℕ} 0 1 = cc in absurd (omega arith)
+opens-n (is.Key word.Fail) n h = let z : _≡_ {A = ℕ} 0 1 = cc in absurd (omega arith)
+opens-n (is.Key word.Not) n h = let z : _≡_ {A = ℕ} 0 1 = cc in absurd (omega arith)
+opens-n (is.Key word.Open) n h = let z : _≡_ {A = ℕ} 0 1 = cc in absurd (omega arith)
+opens-n (is.Key word.Close) n h = let z : _≡_ {A = ℕ} 0 1 = cc in absurd (omega arith)
+opens-n (is.Key word.Begin) n h = let z : _≡_ {A = ℕ} 0 1 = cc in absurd (omega arith)
+opens-n (is.Key word.End) n h = let z : _≡_ {A = ℕ} 0 1 = cc in absurd (omega arith)
+opens-n (is.Key word.Comma) n h = let z : _≡_ {A = ℕ} 0 1 = cc in absurd (omega arith)
+
+pub opens-v : (t : Token) (n : ℕ) → opensAt t ≡ opening.Variable n → t ≡ is.Variable n
+opens-v (is.Number x) n h = let z : _≡_ {A = ℕ} 0 1 = cc in absurd (omega arith)
+opens-v (is.Variable x) n h = let e : x ≡ n = cc in ap is.Variable e
+opens-v is.Name n h = let z : _≡_ {A = ℕ} 0 1 = cc in absurd (omega arith)
+opens-v (is.Operator o) n h = let z : _≡_ {A = ℕ} 0 1 = cc in absurd (omega arith)
+opens-v is.Stop n h = let z : _≡_ {A = ℕ} 0 1 = cc in absurd (omega arith)
+opens-v is.Bad n h = let z : _≡_ {A = ℕ} 0 1 = cc in absurd (omega arith)
+opens-v (is.Key word.Set) n h = let z : _≡_ {A = ℕ} 0 1 = cc in absurd (omega arith)
+opens-v (is.Key word.Do) n h = let z : _≡_ {A = ℕ} 0 1 = cc in absurd (omega arith)
+opens-v (is.Key word.Tries) n h = let z : _≡_ {A = ℕ} 0 1 = cc in absurd (omega arith)
+opens-v (is.Key word.Pause) n h = let z : _≡_ {A = ℕ} 0 1 = cc in absurd (omega arith)
+opens-v (is.Key word.Sleep) n h = let z : _≡_ {A = ℕ} 0 1 = cc in absurd (omega arith)
+opens-v (is.Key word.Hear) n h = let z : _≡_ {A = ℕ} 0 1 = cc in absurd (omega arith)
+opens-v (is.Key word.For) n h = let z : _≡_ {A = ℕ} 0 1 = cc in absurd (omega arith)
+opens-v (is.Key word.If) n h = let z : _≡_ {A = ℕ} 0 1 = cc in absurd (omega arith)
+opens-v (is.Key word.Else) n h = let z : _≡_ {A = ℕ} 0 1 = cc in absurd (omega arith)
+opens-v (is.Key word.While) n h = let z : _≡_ {A = ℕ} 0 1 = cc in absurd (omega arith)
+opens-v (is.Key word.Guard) n h = let z : _≡_ {A = ℕ} 0 1 = cc in absurd (omega arith)
+opens-v (is.Key word.Return) n h = let z : _≡_ {A = ℕ} 0 1 = cc in absurd (omega arith)
+opens-v (is.Key word.Fail) n h = let z : _≡_ {A = ℕ} 0 1 = cc in absurd (omega arith)
+opens-v (is.Key word.Not) n h = let z : _≡_ {A = ℕ} 0 1 = cc in absurd (omega arith)
+opens-v (is.Key word.Open) n h = let z : _≡_ {A = ℕ} 0 1 = cc in absurd (omega arith)
+opens-v (is.Key word.Close) n h = let z : _≡_ {A = ℕ} 0 1 = cc in absurd (omega arith)
+opens-v (is.Key word.Begin) n h = let z : _≡_ {A = ℕ} 0 1 = cc in absurd (omega arith)
+opens-v (is.Key word.End) n h = let z : _≡_ {A = ℕ} 0 1 = cc in absurd (omega arith)
+opens-v (is.Key word.Comma) n h = let z : _≡_ {A = ℕ} 0 1 = cc in absurd (omega arith)
+
+-- from the code's answers to the contract
+pub further-on : (r : Result Cursor NoPlan) (least : ℕ) (at c : Cursor) (bytes room all : ℕ) → room ≡ all → Further r 0 c bytes room → at .pos + least ≤ c .pos → at .len ≤ c .len → Further r least at bytes all
+further-on (Ok x) least at c bytes room all e h p q = (omega (arith, h .0), h .1, omega (arith, h .2), omega (arith, h .3))
+further-on (Err x) least at c bytes room all e h p q = tt
+
+pub chain-read : (level : Level) (d : ℕ) (e : Expr) (text : List ℕ) (at : ℕ) (pre : List ℕ) (c : Cursor) (ys : List ℕ) (r : Result Cursor NoPlan) → isUnary level ≡ false → Took (exprAt (belowOf level) d) e (ahead text at) (ahead text (c .pos)) → ReadExpr r (moreAt level d e) text (c .pos) pre ys → ReadExpr r (exprAt level d) text at pre ys
+chain-read level d e text at pre c ys (Ok x) u t h = record { tree = h .tree; took = chain-took level d e (h .tree) u t (h .took); words = h .words }
+chain-read level d e text at pre c ys (Err x) u t h = chain-bar-more level d (length ys) (length pre) e u t h
+
+pub more-read : (level : Level) (d : ℕ) (o : Operator) (e b : Expr) (text : List ℕ) (at next : ℕ) (pre : List ℕ) (pos : ℕ) (ys : List ℕ) (r : Result Cursor NoPlan) → joinAt level (op (operatorMeant o)) ≡ joins (build o) → ahead text at ≡ both (tokens (op (operatorMeant o) ∷ [])) (ahead text next) → Took (exprAt (belowOf level) d) b (ahead text next) (ahead text pos) → ReadExpr r (moreAt level d (build o e b)) text pos pre ys → ReadExpr r (moreAt level d e) text at pre ys
+more-read level d o e b text at next pre pos ys (Ok x) q a t h = record { tree = h .tree; took = more-took level d o e b (h .tree) q a t (h .took); words = h .words }
+more-read level d o e b text at next pre pos ys (Err x) q a t h = more-bar-behind level d (length ys) (length pre) o e b q a t h
+
+pub leaf-read : (p : Family Expr) (e : Expr) (kind value : ℕ) (text : List ℕ) (at : Cursor) (next : ℕ) (xs ys : List ℕ) (r : Result Cursor NoPlan) → length ys ≡ length xs → Took p e (ahead text (at .pos)) (ahead text next) → codeOf e ≡ kind ∷ value ∷ 0 ∷ 0 ∷ [] → at .len ≤ length xs → at .pos < next → next ≤ length text → Leaf r next (at .len) kind value xs ys →
+    record { forth : Further r 1 at (length text) (length xs); read : ReadExpr r p text (at .pos) (take (at .len) xs) ys }
+leaf-read p e kind value text at next xs ys (Ok c) k t w room lo hi h =
+    record {
+      forth = (omega (arith, h .0), omega (arith, h .0), omega (arith, h .1), omega (arith, h .1, h .2));
+      read = record { tree = e; took = subst (λ (z : ℕ). Took p e (ahead text (at .pos)) (ahead text z)) (sym (h .0)) t; words = subst (λ (z : ℕ). take z ys ≡ take (at .len) xs ++ codeOf e) (sym (h .1)) (h .3 ∙ ap (λ (l : List ℕ). take (at .len) xs ++ l) (sym w)) };
+    }
+leaf-read p e kind value text at next xs ys (Err c) k t w room lo hi h =
+    record { forth = tt; read = no-room p (length ys) (length (take (at .len) xs)) (ahead text (at .pos)) (let l = length-take-le (at .len) xs room in omega arith) }

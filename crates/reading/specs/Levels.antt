@@ -12,6 +12,7 @@ use Rattle.plans.specs.Plan.{Expr, Plus, Minus, Times, Less, Same, exprSize}
 use Rattle.plans.specs.Flat.{codeOf}
 use Rattle.text.specs.Token as token
 use Rattle.text.specs.Parser.{Parser, Join, joins, ends, productOp, sumOp, compareOp, moreS, chainS, unaryS}
+use Rattle.text.specs.Lexer.{Lexed, tokens, both}
 use Rattle.text.specs.Ahead.{ahead}
 use Rattle.text.specs.declared.Token.{Token}
 use Rattle.text.specs.declared.Token.the-variants as is
@@ -156,15 +157,30 @@ Further (Err e) least at bytes room = Unit {0}
 abbrev pub NoRoom : (room len : ℕ) → Expr → Type 0
 NoRoom room len e = room < len + 4 * exprSize e
 
+-- the same, from a place behind the first token
+abbrev pub Onwards : Result Cursor NoPlan → (next len bytes room : ℕ) → Type 0
+Onwards (Ok c) next len bytes room = (next ≤ c .pos) × (c .pos ≤ bytes) × (len ≤ c .len) × (c .len ≤ room)
+Onwards (Err e) next len bytes room = Unit {0}
+
 -- what a reader of expressions leaves: behind the words that were there, those of the expression
-pub record ReadAs (p : Family Expr) (text : List ℕ) (at : ℕ) (pre : List ℕ) (c : Cursor) (ys : List ℕ) : Type 0 where
+pub record ReadAs (p : Family Expr) (l : Lexed) (text : List ℕ) (pre : List ℕ) (c : Cursor) (ys : List ℕ) : Type 0 where
   pub tree : Expr
-  pub took : Took p tree (ahead text at) (ahead text (c .pos))
+  pub took : Took p tree l (ahead text (c .pos))
   pub words : take (c .len) ys ≡ pre ++ codeOf tree
 
+abbrev pub ReadFrom : Result Cursor NoPlan → Family Expr → Lexed → (text pre ys : List ℕ) → Type 0
+ReadFrom (Ok c) p l text pre ys = ReadAs p l text pre c ys
+ReadFrom (Err e) p l text pre ys = Bars p (NoRoom (length ys) (length pre)) l
+
 abbrev pub ReadExpr : Result Cursor NoPlan → Family Expr → (text : List ℕ) (at : ℕ) (pre : List ℕ) (ys : List ℕ) → Type 0
-ReadExpr (Ok c) p text at pre ys = ReadAs p text at pre c ys
-ReadExpr (Err e) p text at pre ys = Bars p (NoRoom (length ys) (length pre)) (ahead text at)
+ReadExpr r p text at pre ys = ReadFrom r p (ahead text at) text pre ys
+
+-- what is ahead where the word not, or an opening bracket, stands before this place
+abbrev pub behindNot : List ℕ → ℕ → Lexed
+behindNot text next = both (tokens (token.key token.NOT ∷ [])) (ahead text next)
+
+abbrev pub behindOpen : List ℕ → ℕ → Lexed
+behindOpen text next = both (tokens (token.key token.OPEN ∷ [])) (ahead text next)
 
 -- one unit was written, or there is no room for it
 abbrev pub Leaf : Result Cursor NoPlan → (next len kind value : ℕ) → (xs ys : List ℕ) → Type 0
