@@ -3,12 +3,13 @@ use mathlib.Core.Path.{_≡_, refl, sym, _∙_, ap, subst}
 use mathlib.Core.List.{List, [], _∷_, _++_, append-assoc}
 use Prim.Native.Nat.{ℕ, zero, suc, _+_, _-_, _*_, _<_, _≤_}
 use native.Mathlib.Omega.{arith}
-use lib.ListN.{length, take, drop, set, length-set, length-append, take-append-drop}
+use lib.ListN.{length, take, drop, set, length-set, length-append, length-drop, take-append-drop}
 use lib.Seq.{take-append-le, length-take-le}
+use Rattle.reading.specs.Statements.{put4}
 use Rattle.std.proofs.shelf.Lists.{take-more-set, drop-set-lt, take-take, take-at, drop-at, drop-take}
 
-abbrev pub put4 : List ℕ → ℕ → ℕ → ℕ → ℕ → ℕ → List ℕ
-put4 xs n a b c d = set (set (set (set xs n a) (n + 1) b) (n + 2) c) (n + 3) d
+
+
 
 one-more : (xs : List ℕ) (n m y : ℕ) → n < length xs → n + 1 ≡ m → take m (set xs n y) ≡ take n xs ++ (y ∷ [])
 one-more xs n m y h e = subst (λ (k : ℕ). take k (set xs n y) ≡ take n xs ++ (y ∷ [])) e (take-more-set xs n y h)
@@ -48,3 +49,16 @@ four-before xs pre gap body n m a b c d h lp lg fits le =
     let lg2 : length (pre ++ gap) ≡ n + 4 = length-append pre gap ∙ omega arith in
     let back2 : drop (n + 4) (take m xs) ≡ body = ap (drop (n + 4)) (h ∙ sym (append-assoc pre gap body)) ∙ drop-at (pre ++ gap) body (n + 4) lg2 in
     sym (take-append-drop (n + 4) (take m ys)) ∙ (ap (λ (l : List ℕ). l ++ drop (n + 4) (take m ys)) (front ∙ ap (λ (l : List ℕ). l ++ (a ∷ b ∷ c ∷ d ∷ [])) p2) ∙ (ap (λ (l : List ℕ). (pre ++ (a ∷ b ∷ c ∷ d ∷ [])) ++ l) (back ∙ back2) ∙ append-assoc pre (a ∷ b ∷ c ∷ d ∷ []) body))
+
+-- a head written before what was read behind it
+pub head-words : (xs zs body : List ℕ) (len m a b c d : ℕ) → take m zs ≡ take (len + 4) xs ++ body → len + 4 ≤ length xs → length zs ≡ length xs → len + 4 ≤ m → take m (put4 zs len a b c d) ≡ take len xs ++ (a ∷ b ∷ c ∷ d ∷ body)
+head-words xs zs body len m a b c d h fits long le =
+    let gap = drop len (take (len + 4) xs) in
+    let pre : take len (take (len + 4) xs) ≡ take len xs = take-take len (len + 4) xs (omega arith) in
+    let lp : length (take len xs) ≡ len = length-take-le len xs (omega arith) in
+    let split : take (len + 4) xs ≡ take len xs ++ gap = sym (take-append-drop len (take (len + 4) xs)) ∙ ap (λ (l : List ℕ). l ++ gap) pre in
+    let lg : length gap ≡ 4 = length-drop len (take (len + 4) xs) ∙ (let l = length-take-le (len + 4) xs fits in omega arith) in
+    four-before zs (take len xs) gap body len m a b c d (h ∙ (ap (λ (l : List ℕ). l ++ body) split ∙ append-assoc (take len xs) gap body)) lp lg (omega arith) le
+
+pub long-as : (ys pre body : List ℕ) (n : ℕ) → take n ys ≡ pre ++ body → n ≤ length ys → n ≡ length pre + length body
+long-as ys pre body n h k = sym (length-take-le n ys k) ∙ (ap length h ∙ length-append pre body)

@@ -1,4 +1,5 @@
 pub mod Chains
 pub mod Leveled
 pub mod Fours
+pub mod Steps
 pub mod Taking

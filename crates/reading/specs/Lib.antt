@@ -1,3 +1,4 @@
 pub mod Levels
+pub mod Statements
 pub mod Took
 pub mod Tokens
