@@ -161,16 +161,16 @@ stays : (level : Level) (d : ℕ) (e : Expr) (l : Lexed) → ((ts : List token.T
 stays level d e wrong f = took.Took.lost
 stays level d e (tokens ts) f = found (le-refl _) (λ n i j k. more-ends level (parserAt (belowOf level) n d) i e ts k (f ts refl))
 
-head-is : (P : List token.Token → Type 0) (t : token.Token) (l m : Lexed) (ts : List token.Token) → l ≡ both (tokens (t ∷ [])) m → l ≡ tokens ts → ((us : List token.Token) → P (t ∷ us)) → P ts
+pub head-is : (P : List token.Token → Type 0) (t : token.Token) (l m : Lexed) (ts : List token.Token) → l ≡ both (tokens (t ∷ [])) m → l ≡ tokens ts → ((us : List token.Token) → P (t ∷ us)) → P ts
 unfolding both
 head-is P t l wrong ts h k f = let z : _≡_ {A = ℕ} 0 1 = cc in absurd (omega arith)
 head-is P t l (tokens us) ts h k f = let e : (t ∷ us) ≡ ts = cc in subst P e (f us)
 
-none-is : (P : List token.Token → Type 0) (l m : Lexed) (ts : List token.Token) → l ≡ both (tokens []) m → m ≡ tokens [] → l ≡ tokens ts → P [] → P ts
+pub none-is : (P : List token.Token → Type 0) (l m : Lexed) (ts : List token.Token) → l ≡ both (tokens []) m → m ≡ tokens [] → l ≡ tokens ts → P [] → P ts
 unfolding both
 none-is P l m ts h e k f = let q : tokens [] ≡ tokens ts = sym (h ∙ ap (both (tokens [])) e) ∙ k in let r : [] ≡ ts = cc in subst P r f
 
-wrong-is : {X : Type 0} (l m : Lexed) (ts : List token.Token) → l ≡ both wrong m → l ≡ tokens ts → X
+pub wrong-is : {X : Type 0} (l m : Lexed) (ts : List token.Token) → l ≡ both wrong m → l ≡ tokens ts → X
 unfolding both
 wrong-is l m ts h k = let z : _≡_ {A = ℕ} 0 1 = cc in absurd (omega arith)
 

@@ -1,5 +1,8 @@
 pub mod Chains
 pub mod Leveled
 pub mod Fours
+pub mod Stated
 pub mod Steps
 pub mod Taking
+pub mod Tasked
+pub mod Whole

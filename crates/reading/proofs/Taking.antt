@@ -182,6 +182,15 @@ pub name-yes : (v : Name) (l m : Lexed) → l ≡ both (tokens (name v ∷ [])) 
 unfolding withName
 name-yes v l m h = take-token oneName v (name v) l m h (λ us n i. refl)
 
+going-on : (t : Token) → taken t ≡ true → stops t ≡ false
+going-on (is.Number n) h = refl
+going-on (is.Variable n) h = refl
+going-on is.Name h = refl
+going-on (is.Operator o) h = refl
+going-on (is.Key k) h = refl
+going-on is.Stop h = absurd (false≢true h)
+going-on is.Bad h = refl
+
 -- where the token that was found is one, it lies ahead
 pub onward : (from : ℕ) (r : Lexeme) (n : ℕ) → Forth from r n → from ≤ n → taken (r .token) ≡ true → (from < r .next) × (r .next ≤ n)
-onward from r n f h t = let a = f .after in let b = f .moves t in let c = f .within h in (omega arith, c)
+onward from r n f h t = let a = f .after in let b = f .moves (going-on (r .token) t) in let c = f .within h in (omega arith, c)

@@ -101,3 +101,81 @@ keyAt k n i ts = keyS (λ us. blockS (suc n) us) k ts
 
 abbrev pub assignAt : ℕ → Family Stmt
 assignAt v n i ts = assignS v ts
+
+-- behind a variable and =: do, a kind and an opening bracket; the arguments; tries and pause
+abbrev pub frontOpen : ℕ → Family ℕ
+frontOpen k n i ts = andThen (oneKey token.OPEN n i ts) (λ x us. got k us)
+
+abbrev pub frontKind : Family ℕ
+frontKind n i ts = andThen (oneNumber n i ts) (λ k us. frontOpen k n i us)
+
+abbrev pub frontAt : Family ℕ
+frontAt n i ts = andThen (oneKey token.DO n i ts) (λ x us. frontKind n i us)
+
+-- how often, and how long between
+pub record Times : Type 0 where
+  pub tries : ℕ
+  pub pause : ℕ
+
+abbrev pub backPause : ℕ → Family Times
+backPause t n i ts = andThen (oneNumber n i ts) (λ p us. got (record { tries = t; pause = p }) us)
+
+abbrev pub backThen : ℕ → Family Times
+backThen t n i ts = andThen (oneKey token.PAUSE n i ts) (λ x us. backPause t n i us)
+
+abbrev pub backTries : Family Times
+backTries n i ts = andThen (oneNumber n i ts) (λ t us. backThen t n i us)
+
+abbrev pub backAt : Family Times
+backAt n i ts = andThen (oneKey token.TRIES n i ts) (λ x us. backTries n i us)
+
+abbrev pub timesOk : Times → Bool
+timesOk x = ltb 0 (x .tries) && leb (x .tries) 32 && leb (x .pause) 86400000
+
+-- behind an argument, and behind the opening bracket
+abbrev pub argsAt : Family (List Expr)
+argsAt n i ts = argsS i ts
+
+abbrev pub listAt : Family (List Expr)
+listAt n i ts = listS ts
+
+abbrev pub taskDone : ℕ → ℕ → List Expr → Times → Family Stmt
+taskDone v k es x n i ts = ifOk (doOk k es (x .tries) (x .pause)) (got (Do v k es (x .tries) (x .pause)) ts)
+
+abbrev pub taskArgs : ℕ → ℕ → List Expr → Family Stmt
+taskArgs v k es n i ts = andThen (backAt n i ts) (λ x us. taskDone v k es x n i us)
+
+abbrev pub taskKind : ℕ → ℕ → Family Stmt
+taskKind v k n i ts = andThen (listAt n i ts) (λ es us. taskArgs v k es n i us)
+
+abbrev pub taskAt : ℕ → Family Stmt
+taskAt v n i ts = andThen (frontAt n i ts) (λ k us. taskKind v k n i us)
+
+-- behind a variable and a comma: another variable, =, hear, a name, for; and how long
+pub record Heard : Type 0 where
+  pub other : ℕ
+  pub name : Name
+
+abbrev pub heardFor : ℕ → Name → Family Heard
+heardFor w m n i ts = andThen (oneKey token.FOR n i ts) (λ x us. got (record { other = w; name = m }) us)
+
+abbrev pub heardName : ℕ → Family Heard
+heardName w n i ts = andThen (oneName n i ts) (λ m us. heardFor w m n i us)
+
+abbrev pub heardHear : ℕ → Family Heard
+heardHear w n i ts = andThen (oneKey token.HEAR n i ts) (λ x us. heardName w n i us)
+
+abbrev pub heardSame : ℕ → Family Heard
+heardSame w n i ts = andThen (oneSame n i ts) (λ x us. heardHear w n i us)
+
+abbrev pub heardAt : Family Heard
+heardAt n i ts = andThen (oneVariable n i ts) (λ w us. heardSame w n i us)
+
+abbrev pub hearDone : ℕ → Heard → Expr → Family Stmt
+hearDone v h e n i ts = ifOk (not (eqb v (h .other))) (got (Hear v (h .other) (h .name) e) ts)
+
+abbrev pub hearFor : ℕ → Heard → Family Stmt
+hearFor v h n i ts = andThen (exprS ts) (λ e us. hearDone v h e n i us)
+
+abbrev pub hearAt : ℕ → Family Stmt
+hearAt v n i ts = andThen (heardAt n i ts) (λ h us. hearFor v h n i us)

@@ -114,7 +114,7 @@ fn unit(out: &mut [u64], len: usize, kind: u64, value: u64)
 }
 
 // A number or a variable.
-fn leaf(found: Lexeme, len: usize, kind: u64, value: u64, out: &mut [u64]) -> Result<Cursor, NoPlan>
+pub fn leaf(found: Lexeme, len: usize, kind: u64, value: u64, out: &mut [u64]) -> Result<Cursor, NoPlan>
     requires { ⌜ len ≤ length (now out) ⌝ }
     ensures { λ r. ⌜ Leaf r (found .next) len kind value (now (out .entry)) (now (out .exit)) ⌝ }
 {

@@ -124,7 +124,7 @@ key-sound p ps BEGIN ts = tt
 key-sound p ps END ts = tt
 key-sound p ps COMMA ts = tt
 
-stmt-sound : (p : List Token → Got Block) → ((ts : List Token) → Holds (IsPart ts) (p ts)) → (ts : List Token) → Holds (IsStmt ts) (stmtS p ts)
+pub stmt-sound : (p : List Token → Got Block) → ((ts : List Token) → Holds (IsPart ts) (p ts)) → (ts : List Token) → Holds (IsStmt ts) (stmtS p ts)
 unfolding stmtS
 stmt-sound p ps [] = tt
 stmt-sound p ps (number n ∷ ts) = tt

@@ -100,6 +100,6 @@ pub record Forth (from : ℕ) (r : Lexeme) (n : ℕ) : Type 0 where
   pub after : from ≤ r .start
   pub order : r .start ≤ r .next
   pub within : from ≤ n → r .next ≤ n
-  pub moves : taken (r .token) ≡ true → r .start < r .next
+  pub moves : stops (r .token) ≡ false → r .start < r .next
   pub ends : stops (r .token) ≡ true → n ≤ r .next
   pub small : Small (r .token)

@@ -8,13 +8,13 @@ use Rattle.text.proofs.token_at.Needs as need
 
 pub returns-then-text-from : need.returns-then-text-from
 returns-then-text-from c =
-    record { ahead = sym (both-nil _); forth = record { after = omega arith; order = omega arith; within = λ h. h; moves = λ h. absurd (never-stops h); ends = λ h. c .if-text-from .taken; small = tt } }
+    record { ahead = sym (both-nil _); forth = record { after = omega arith; order = omega arith; within = λ h. h; moves = λ h. absurd (never-stops (sym h)); ends = λ h. c .if-text-from .taken; small = tt } }
 
 pub returns-then-text-start : need.returns-then-text-start
 returns-then-text-start c =
     record {
       ahead = sym (c .past-blanks-start .ensures .same) ∙ sym (both-nil _);
-      forth = record { after = c .past-blanks-start .ensures .forth; order = omega arith; within = λ h. c .past-blanks-start .ensures .within; moves = λ h. absurd (never-stops h); ends = λ h. c .if-text-start .taken; small = tt };
+      forth = record { after = c .past-blanks-start .ensures .forth; order = omega arith; within = λ h. c .past-blanks-start .ensures .within; moves = λ h. absurd (never-stops (sym h)); ends = λ h. c .if-text-start .taken; small = tt };
     }
 
 pub returns-then-not-word-byte : need.returns-then-not-word-byte
