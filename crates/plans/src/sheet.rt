@@ -1,10 +1,14 @@
 // Where the words of a plan are written, one after the other.
 ghost use Prim.Native.Nat.{ℕ};
 ghost use Prim.Native.Nat.{_-_};
-ghost use denote.Ref.{now};
-ghost use lib.ListN.{length};
+ghost use mathlib.Core.Path.{_≡_};
+ghost use Rattle.std.specs.Of.Vec.{vec-len, vec-items};
+ghost use Rattle.std.specs.Vec.{made};
 ghost use Rattle.plans.specs.Sheet.{Put};
 ghost use Rattle.plans.specs.Noted.{Noted};
+
+use std::alloc::AllocError;
+use std::alloc::Global;
 
 // There is no room for a word more.
 #[derive(Clone, Copy)]
@@ -22,17 +26,27 @@ pub trait Sheet {
         ensures { λ r. ⌜ Put wrote room r (now (self .entry)) word (now (self .exit)) ⌝ };
 }
 
-// Plain memory that is lent, and how many of its words are written.
+// Plain memory: how many of its words are written.
 #[derive(Drop)]
-pub struct Slate<'a> {
-    pub words: &'a mut [u64],
+pub struct Slate {
+    pub words: Vec<u64>,
     pub len: usize,
 }
 
-pub impl Sheet for Slate<'_> as SlateSheet {
-    ghost wrote = { λ s w t. Noted (now (s .words)) (s .len) w (now (t .words)) (t .len) };
+impl Slate {
+    // Room for so many words.
+    pub fn new(heap: Global, room: usize) -> Result<Slate, AllocError>
+        ensures { λ r. ⌜ made r (λ s. (s .len ≡ 0) × (vec-len (s .words) ≡ room)) ⌝ }
+    {
+        let words = vec![in heap; 0u64; room]?;
+        Ok(Slate { words, len: 0 })
+    }
+}
 
-    ghost room = { λ s. length (now (s .words)) - s .len };
+pub impl Sheet for Slate as SlateSheet {
+    ghost wrote = { λ s w t. Noted (vec-items (s .words)) (s .len) w (vec-items (t .words)) (t .len) };
+
+    ghost room = { λ s. vec-len (s .words) - s .len };
 
     fn put(&mut self, word: u64) -> Result<(), Full> {
         if self.len >= self.words.len() {

@@ -9,20 +9,25 @@ use lib.Dec.{leb}
 use lib.ListN.{length, take, drop}
 use Rattle.std.proofs.shelf.Ways.{tells}
 use Rattle.plans.specs.Plan.{Block, sizeOf}
-use Rattle.plans.specs.Flat.{draftOf}
-use Rattle.plans.proofs.Drafts.{draft-length}
+use Rattle.std.specs.declared.result.Result.{Result}
+use Rattle.std.specs.declared.result.Result.the-variants.{Ok, Err}
+use Rattle.plans.specs.Flat.{draftOf, Nowhere, lay, laid}
+use Rattle.plans.proofs.Drafts.{draft-length, lay-length}
+use Rattle.text.proofs.Texts.{read-sound, read-complete}
 use Rattle.text.specs.Token.{number, variable, name, op, key, Got, fails, got}
 use Rattle.text.specs.Token as token
 use Rattle.text.specs.Lexer.{Lexed, wrong, tokens, both, tokensIn}
 use Rattle.text.specs.Parser.{blockS, planS}
-use Rattle.text.specs.Text.{Reading, nothing, plan, sized, whole, parsed, readText}
+use Rattle.text.specs.Text.{IsText, Reading, nothing, plan, sized, whole, parsed, readText}
 use Rattle.text.specs.Ahead.{ahead, keyMeant, operatorMeant, means, stops}
 use Rattle.text.specs.declared.Token.{Token}
 use Rattle.text.specs.declared.Token.the-variants as is
 use Rattle.reading.specs.Took.{Family, Took, found, Only, Bars, bars}
 use Rattle.reading.specs.Took as took
 use Rattle.reading.specs.Statements.{partAt, Large}
-use Rattle.reading.specs.Plans.{IsRead}
+use Rattle.reading.specs.declared.error.ReadError.{ReadError}
+use Rattle.reading.specs.declared.error.ReadError.the-variants.{NotPlan, NoRoom, ShortDraft}
+use Rattle.reading.specs.Plans.{IsRead, Writes, Reads}
 use Rattle.reading.proofs.Fours.{long-as}
 use Rattle.reading.proofs.Leveled.{units-are, head-is}
 
@@ -123,5 +128,17 @@ is-read text ys b pos n t w k h long lim x words a s f =
       block = b;
       read = read-is text h ∙ took-plan b (ahead text 0) (ahead text pos) x (stop-behind text pos t w k a s f) (omega arith);
       sized = e;
+      small = omega arith;
       words = ap (λ (q : ℕ). take q ys) r ∙ words;
     }
+
+-- nothing is read of what is no text of a plan
+pub not-text : (text : List ℕ) → readText 65536 text ≡ nothing → (b : Block) → IsText 65536 text b → ⊥
+not-text text h b x = let e = read-complete 65536 text b x in let z : _≡_ {A = ℕ} 0 1 = cc in omega arith
+
+pub reads-of : {S : Type 0} (wrote : S → ℕ → S → Type 0) (room : S → ℕ) (r : Result ℕ ReadError) (text draft : List ℕ) (size : ℕ) (n : ℕ) (s t : S) → (i : IsRead text size draft) → Writes wrote room r size s (laid (i .block)) t → Reads wrote room r text n s t
+unfolding laid
+reads-of wrote room (Ok m) text draft size n s t i h = (i .block, read-sound 65536 text (i .block) (i .read), h .0 ∙ i .sized, h .1)
+reads-of wrote room (Err (NotPlan e)) text draft size n s t i h = absurd h
+reads-of wrote room (Err NoRoom) text draft size n s t i h = (i .block, read-sound 65536 text (i .block) (i .read), (let l = lay-length (i .block) 0 (4 * sizeOf (i .block) - 3) Nowhere 0 in omega arith))
+reads-of wrote room (Err ShortDraft) text draft size n s t i h = absurd h

@@ -34,3 +34,13 @@ pub struct NoPlan {
     pub at: usize,
     pub expected: Expected,
 }
+
+// Why nothing was read.
+#[derive(Clone, Copy)]
+pub enum ReadError {
+    NotPlan(NoPlan),
+    // the sheet has too little room for the plan
+    NoRoom,
+    // the draft has fewer than 16,384 words
+    ShortDraft,
+}
