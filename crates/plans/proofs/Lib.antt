@@ -1,4 +1,5 @@
 pub mod Drafts
+pub mod Evals
 pub mod Parts
 pub mod Simple
 pub mod Written

@@ -1,3 +1,4 @@
+pub mod Eval
 pub mod Plan
 pub mod Flat
 pub mod Noted
