@@ -320,3 +320,7 @@ pub laid-refused : {S : Type 0} (wrote : S → ℕ → S → Type 0) (room : S �
 unfolding laid
 laid-refused wrote room b ds d a c NoRoom h = let l = lay-length b 0 (length ds - 3) Nowhere 0 in let m = lay-length b 0 (4 * sizeOf b - 3) Nowhere 0 in omega arith
 laid-refused wrote room b ds d a c Damaged h = h
+
+pub laid-length : (b : Block) → length (laid b) ≡ 4 * sizeOf b
+unfolding laid
+laid-length b = lay-length b 0 (4 * sizeOf b - 3) Nowhere 0

@@ -2,9 +2,8 @@
 ghost use Rattle.text.specs.Promise.{OnePlan, ReadsExactly, SaysExactly, Printed, ReadBack, SamePlans};
 ghost use mathlib.Core.Path.{_≡_};
 ghost use mathlib.Core.List.{List};
-ghost use mathlib.Core.Bool.{Bool, true, false, cond, not, _||_};
+ghost use mathlib.Core.Bool.{true, false};
 ghost use Prim.Native.Nat.{ℕ, _+_, _-_, _≤_, _<_};
-ghost use lib.Dec.{eqb, leb};
 ghost use lib.ListN.{length, drop, take, getD};
 ghost use Rattle.std.specs.shelf.Text.{sameBytes};
 ghost use Rattle.plans.specs.Plan.{wordOk};
@@ -12,7 +11,7 @@ ghost use Rattle.text.specs.Lexer.{wordByte, tokensIn, both, ended, numberOf, 
 ghost use Rattle.text.specs.Gaps.{goesOn, inRemark};
 ghost use Rattle.text.specs.Numbers.{Stepped, numbered, variabled, Below, beginsVariable};
 ghost use Rattle.text.specs.Words.{saying, keyShort, keyLong, lower};
-ghost use Rattle.text.specs.Ahead.{ahead, meant, means, Forth, Plain, Small, taken};
+ghost use Rattle.text.specs.Ahead.{ahead, meant, means, Forth, Plain};
 
 #[derive(Clone, Copy)]
 pub enum Operator {
@@ -139,13 +138,8 @@ fn number_of(w: &[u8]) -> Option<u64>
     ensures { λ r. ⌜ numbered r ≡ numberOf (now (w .entry)) ⌝ }
 {
     let mut n = 0u64;
-    let mut i = 0;
-    while i < w.len() {
-        match step(n, w[i]) {
-            Some(m) => n = m,
-            None => return None,
-        }
-        i += 1;
+    for d in w {
+        n = step(n, *d)?;
     }
     Some(n)
 }
@@ -276,12 +270,10 @@ fn is_name(w: &[u8]) -> bool
     if w.len() == 0 || w.len() > 64 {
         return false;
     }
-    let mut i = 0;
-    while i < w.len() {
-        if !is_lower(w[i]) {
+    for b in w {
+        if !is_lower(*b) {
             return false;
         }
-        i += 1;
     }
     true
 }

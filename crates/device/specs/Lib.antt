@@ -1,0 +1,7 @@
+pub mod Lines
+pub mod Does
+pub mod Ties
+pub mod Safe
+pub mod Images
+pub mod Flips
+pub mod Costs

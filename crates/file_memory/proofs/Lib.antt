@@ -1,0 +1,2 @@
+mod ReadBack
+mod Held

@@ -1,0 +1,6 @@
+// The memory in a file.
+pub mod bytes;
+pub mod memory;
+pub mod open;
+
+pub use memory::FileMemory;

@@ -1,0 +1,4 @@
+mod Turns
+mod Settles
+mod Caches
+pub mod Fuses

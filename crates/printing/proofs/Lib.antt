@@ -1,0 +1,9 @@
+pub mod Adds
+pub mod Shapes
+pub mod Arms
+pub mod Units
+pub mod Args
+pub mod Exits
+pub mod Heads
+pub mod Parts
+pub mod Forks

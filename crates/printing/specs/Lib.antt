@@ -1,0 +1,4 @@
+pub mod Said
+pub mod Levels
+pub mod Roots
+pub mod Heads

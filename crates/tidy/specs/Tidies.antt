@@ -1,0 +1,27 @@
+-- What is printed of a text. Assumes nothing.
+use mathlib.Core.Path.{_≡_}
+use mathlib.Core.List.{List}
+use Prim.Native.Nat.{ℕ}
+use Rattle.plans.specs.Plan.{Block}
+use Rattle.text.specs.Printer.{textOf}
+use Rattle.text.specs.Text.{IsText}
+use Rattle.reading.specs.declared.error.ReadError.{ReadError}
+use Rattle.reading.specs.declared.error.ReadError.the-variants as of
+use Rattle.tidy.specs.declared.TidyError.{TidyError}
+use Rattle.tidy.specs.declared.TidyError.the-variants.{NotPlan, Memory}
+
+-- the text is that of a plan, and what is printed is the plan's own text
+pub record Tidied (text out : List ℕ) : Type 0 where
+  pub block : Block
+  pub is : IsText 65536 text block
+  pub prints : out ≡ textOf block
+
+-- it is the text of no plan; of want of memory nothing is said
+abbrev pub Why : TidyError → List ℕ → Type 0
+Why (NotPlan e) text = (b : Block) → IsText 65536 text b → ⊥
+Why Memory text = Unit {0}
+
+abbrev pub reasonOf : ReadError → TidyError
+reasonOf (of.NotPlan e) = NotPlan e
+reasonOf of.NoRoom = Memory
+reasonOf of.ShortDraft = Memory
