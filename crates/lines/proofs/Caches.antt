@@ -391,10 +391,10 @@ fail-held : (n : ℕ) (h : Held) (ps : List ℕ) (m : Lines) → Tied n h m → 
 unfolding back marked ofLine
 fail-held n h ps m (s, w) len low =
     let s1 : Sound n (chosen ps h) = choose-sound n h ps s len low in
-    let w1 : Shows n (chosen ps h) (marked ps m) = record { lasts = w .lasts; since = w .since; pushed = λ l hl. refl } in (
+    let shown1 : Shows n (chosen ps h) (marked ps m) = record { lasts = w .lasts; since = w .since; pushed = λ l hl. refl } in (
       lose-sound n (fencing (chosen ps h)) (fence-sound n (chosen ps h) s1) (none-pushed n (chosen ps h) s1),
       record {
-        lasts = λ l k hl hk. fence-lasts n (chosen ps h) s1 (marked ps m) w1 l k hl hk;
+        lasts = λ l k hl hk. fence-lasts n (chosen ps h) s1 (marked ps m) shown1 l k hl hk;
         since = λ l hl. refl;
         pushed = λ l hl. sym (none-pushed n (chosen ps h) s1 l);
       },

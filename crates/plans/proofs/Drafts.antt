@@ -36,6 +36,7 @@ padded-length n = length-take-le 64 (n ++ replicate 64 0) (simp (length-append, 
 
 mutual
   unfolding draftStmt draftOf stmtSize sizeOf
+
   pub stmt-length : (s : Stmt) → length (draftStmt s) ≡ 4 * stmtSize s
   stmt-length (Set v e) = let x = code-length e in omega arith
   stmt-length (Do v k es t p) = let x = codes-length es in omega arith
@@ -53,6 +54,7 @@ mutual
 
 mutual
   unfolding layStmt lay stmtSize sizeOf
+
   pub layStmt-length : (s : Stmt) (a next : ℕ) (way : Way) (u d : ℕ) → length (layStmt a s next way u d) ≡ 4 * stmtSize s
   layStmt-length (Set v e) a next way u d = let x = code-length e in omega arith
   layStmt-length (Do v k es t p) a next way u d = let x = codes-length es in omega arith

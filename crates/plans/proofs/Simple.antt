@@ -141,7 +141,7 @@ simple-linked {S} wrote room ds at s w rest next way u deep n l a b c r simple d
     let tl : length (tailOf s) ≡ 4 * (getD ds (at + 2) 0 - 1) = omega (arith, x .third) in
     let t : take (4 * (getD ds (at + 2) 0 - 1)) (drop (at + 4) ds) ≡ tailOf s = front-of ds (at + 4) _ (tailOf s) rest (x .behind) tl in
     let hd : ((getD ds at 0 + 32 * deep) ∷ getD ds (at + 1) 0 ∷ n ∷ l ∷ []) ≡ (entry (kindOf s) deep ∷ secondOf s ∷ nextWord (kindOf s) next ∷ lastWord (kindOf s) (wayWord w) (fourthOf s) ∷ []) =
-      rw (en, el, is, x .first, x .second, x .fourth) refl in
+    rw (en, el, is, x .first, x .second, x .fourth) refl in
     let h' : Wrote (Step wrote room) (entry (kindOf s) deep ∷ secondOf s ∷ nextWord (kindOf s) next ∷ lastWord (kindOf s) (wayWord w) (fourthOf s) ∷ []) a b = subst (λ (q : List ℕ). Wrote (Step wrote room) q a b) hd h in
     let k' : Written wrote room r b (tailOf s) c = written-at wrote room b c r _ _ t (k big) in
     written-at wrote room a c r _ _ (sym (lay-is s simple at next w u deep)) (written-then wrote room _ (tailOf s) a b c r h' k')

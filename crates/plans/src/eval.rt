@@ -131,5 +131,8 @@ pub fn eval(code: &[u64], at: usize, vars: &[u64], stack: &mut [u64]) -> Result<
     if count != 1 {
         return Err(Damaged);
     }
-    Ok(Valued { value: stack[0], end })
+    Ok(Valued {
+        value: stack[0],
+        end,
+    })
 }

@@ -50,7 +50,11 @@ fn behind(word: u64, end: u64, go: Context) -> Context
     if word == kinds::PART {
         return go;
     }
-    Context { next: end, way: go.way, under: go.under + 1 }
+    Context {
+        next: end,
+        way: go.way,
+        under: go.under + 1,
+    }
 }
 
 // Copies words of the draft.
@@ -68,18 +72,32 @@ fn copy<S: Sheet>(draft: &[u64], from: usize, count: usize, sheet: &mut S) -> Re
 fn next_word(kind: u64, next: u64) -> u64
     ensures { λ r. ⌜ r ≡ nextWord kind next ⌝ }
 {
-    if kind == kinds::RETURN || kind == kinds::FAIL { 0 } else { next }
+    if kind == kinds::RETURN || kind == kinds::FAIL {
+        0
+    } else {
+        next
+    }
 }
 
 // The fourth: a task and a failure say where a failure goes.
 fn last_word(kind: u64, way: u64, own: u64) -> u64
     ensures { λ r. ⌜ r ≡ lastWord kind way own ⌝ }
 {
-    if kind == kinds::DO || kind == kinds::FAIL { way } else { own }
+    if kind == kinds::DO || kind == kinds::FAIL {
+        way
+    } else {
+        own
+    }
 }
 
 // A statement with no parts: the draft's words, but for where control and a failure go.
-fn link_simple<S: Sheet>(draft: &[u64], at: usize, deep: u64, go: Context, sheet: &mut S) -> Result<(), LinkError>
+fn link_simple<S: Sheet>(
+    draft: &[u64],
+    at: usize,
+    deep: u64,
+    go: Context,
+    sheet: &mut S,
+) -> Result<(), LinkError>
     requires small { ⌜ length (now draft) ≤ 16384 ⌝ }
     requires whole { ⌜ at + 4 ≤ length (now draft) ⌝ }
     requires low { ⌜ deep ≤ 16384 ⌝ }
@@ -90,12 +108,23 @@ fn link_simple<S: Sheet>(draft: &[u64], at: usize, deep: u64, go: Context, sheet
     if kind > kinds::FAIL || size == 0 || size > 4096 {
         return Err(LinkError::Damaged);
     }
-    let head = [kind + 32 * deep, draft[at + 1], next_word(kind, go.next), last_word(kind, go.way, draft[at + 3])];
+    let head = [
+        kind + 32 * deep,
+        draft[at + 1],
+        next_word(kind, go.next),
+        last_word(kind, go.way, draft[at + 3]),
+    ];
     put_all(sheet, &head)?;
     copy(draft, at + 4, 4 * (size as usize - 1), sheet)
 }
 
-fn link_if<S: Sheet>(draft: &[u64], at: usize, deep: u64, go: Context, sheet: &mut S) -> Result<(), LinkError>
+fn link_if<S: Sheet>(
+    draft: &[u64],
+    at: usize,
+    deep: u64,
+    go: Context,
+    sheet: &mut S,
+) -> Result<(), LinkError>
     requires small { ⌜ length (now draft) ≤ 16384 ⌝ }
     requires whole { ⌜ at + 4 ≤ length (now draft) ⌝ }
     requires low { ⌜ (go .under ≤ at + 1) × (deep ≤ at + 1) ⌝ }
@@ -116,7 +145,13 @@ fn link_if<S: Sheet>(draft: &[u64], at: usize, deep: u64, go: Context, sheet: &m
 }
 
 // Behind a loop's body control goes on at the loop as it turns.
-fn link_while<S: Sheet>(draft: &[u64], at: usize, deep: u64, go: Context, sheet: &mut S) -> Result<(), LinkError>
+fn link_while<S: Sheet>(
+    draft: &[u64],
+    at: usize,
+    deep: u64,
+    go: Context,
+    sheet: &mut S,
+) -> Result<(), LinkError>
     requires small { ⌜ length (now draft) ≤ 16384 ⌝ }
     requires whole { ⌜ at + 4 ≤ length (now draft) ⌝ }
     requires low { ⌜ (go .under ≤ at + 1) × (deep ≤ at + 1) ⌝ }
@@ -127,15 +162,33 @@ fn link_while<S: Sheet>(draft: &[u64], at: usize, deep: u64, go: Context, sheet:
         return Err(LinkError::Damaged);
     }
     let body = at + 4 + 4 * units as usize;
-    put_all(sheet, &[kinds::WHILE + 32 * deep, kinds::TURN + 32 * (go.under + 1), go.next, 0])?;
+    put_all(
+        sheet,
+        &[
+            kinds::WHILE + 32 * deep,
+            kinds::TURN + 32 * (go.under + 1),
+            go.next,
+            0,
+        ],
+    )?;
     copy(draft, at + 4, 4 * units as usize, sheet)?;
-    let turn = Context { next: at as u64 + 1, way: go.way, under: go.under + 1 };
+    let turn = Context {
+        next: at as u64 + 1,
+        way: go.way,
+        under: go.under + 1,
+    };
     link_part(draft, body, turn, sheet)?;
     Ok(())
 }
 
 // A failure in a guard's first part goes to its other part.
-fn link_guard<S: Sheet>(draft: &[u64], at: usize, deep: u64, go: Context, sheet: &mut S) -> Result<(), LinkError>
+fn link_guard<S: Sheet>(
+    draft: &[u64],
+    at: usize,
+    deep: u64,
+    go: Context,
+    sheet: &mut S,
+) -> Result<(), LinkError>
     requires small { ⌜ length (now draft) ≤ 16384 ⌝ }
     requires whole { ⌜ at + 4 ≤ length (now draft) ⌝ }
     requires low { ⌜ (go .under ≤ at + 1) × (deep ≤ at + 1) ⌝ }
@@ -146,14 +199,32 @@ fn link_guard<S: Sheet>(draft: &[u64], at: usize, deep: u64, go: Context, sheet:
         return Err(LinkError::Damaged);
     }
     let other = at + 4 * to_other as usize;
-    put_all(sheet, &[kinds::GUARD + 32 * deep, kinds::LEAVE + 32 * (go.under + 1), go.next, other as u64])?;
-    let guarded = Context { next: at as u64 + 1, way: other as u64 + 1, under: go.under + 1 };
+    put_all(
+        sheet,
+        &[
+            kinds::GUARD + 32 * deep,
+            kinds::LEAVE + 32 * (go.under + 1),
+            go.next,
+            other as u64,
+        ],
+    )?;
+    let guarded = Context {
+        next: at as u64 + 1,
+        way: other as u64 + 1,
+        under: go.under + 1,
+    };
     link_part(draft, at + 4, guarded, sheet)?;
     link_part(draft, other, go, sheet)?;
     Ok(())
 }
 
-fn link_statement<S: Sheet>(draft: &[u64], at: usize, deep: u64, go: Context, sheet: &mut S) -> Result<(), LinkError>
+fn link_statement<S: Sheet>(
+    draft: &[u64],
+    at: usize,
+    deep: u64,
+    go: Context,
+    sheet: &mut S,
+) -> Result<(), LinkError>
     requires small { ⌜ length (now draft) ≤ 16384 ⌝ }
     requires whole { ⌜ at + 4 ≤ length (now draft) ⌝ }
     requires low { ⌜ (go .under ≤ at + 1) × (deep ≤ at + 1) ⌝ }
@@ -173,7 +244,12 @@ fn link_statement<S: Sheet>(draft: &[u64], at: usize, deep: u64, go: Context, sh
 }
 
 // A part from here on: its statements, and its end. Gives where what follows it begins.
-fn link_part<S: Sheet>(draft: &[u64], at: usize, go: Context, sheet: &mut S) -> Result<usize, LinkError>
+fn link_part<S: Sheet>(
+    draft: &[u64],
+    at: usize,
+    go: Context,
+    sheet: &mut S,
+) -> Result<usize, LinkError>
     requires small { ⌜ length (now draft) ≤ 16384 ⌝ }
     requires near { ⌜ at ≤ 65536 ⌝ }
     requires low { ⌜ go .under ≤ at ⌝ }
@@ -183,7 +259,10 @@ fn link_part<S: Sheet>(draft: &[u64], at: usize, go: Context, sheet: &mut S) -> 
         return Err(LinkError::Damaged);
     }
     if draft[at] == kinds::PART {
-        put_all(sheet, &[kinds::PART + 32 * (go.under + 1), kinds::END, go.next, 0])?;
+        put_all(
+            sheet,
+            &[kinds::PART + 32 * (go.under + 1), kinds::END, go.next, 0],
+        )?;
         return Ok(at + 4);
     }
     let size = draft[at + 2];
@@ -206,7 +285,11 @@ pub fn link<S: Sheet>(draft: &[u64], sheet: &mut S) -> Result<(), LinkError>
     if draft.len() < 4 || draft.len() > kinds::MOST_WORDS {
         return Err(LinkError::Damaged);
     }
-    let whole = Context { next: draft.len() as u64 - 3, way: 0, under: 0 };
+    let whole = Context {
+        next: draft.len() as u64 - 3,
+        way: 0,
+        under: 0,
+    };
     link_part(draft, 0, whole, sheet)?;
     Ok(())
 }

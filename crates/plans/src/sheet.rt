@@ -6,7 +6,6 @@ ghost use Rattle.std.specs.Of.Vec.{vec-len, vec-items};
 ghost use Rattle.std.specs.Vec.{made};
 ghost use Rattle.plans.specs.Sheet.{Put};
 ghost use Rattle.plans.specs.Noted.{Noted};
-
 use std::alloc::AllocError;
 use std::alloc::Global;
 

@@ -8,9 +8,6 @@ use lib.Seq.{take-append-le, length-take-le}
 use Rattle.reading.specs.Statements.{put4}
 use Rattle.std.proofs.shelf.Lists.{take-more-set, drop-set-lt, take-take, take-at, drop-at, drop-take}
 
-
-
-
 one-more : (xs : List ℕ) (n m y : ℕ) → n < length xs → n + 1 ≡ m → take m (set xs n y) ≡ take n xs ++ (y ∷ [])
 one-more xs n m y h e = subst (λ (k : ℕ). take k (set xs n y) ≡ take n xs ++ (y ∷ [])) e (take-more-set xs n y h)
 
@@ -45,7 +42,7 @@ four-before xs pre gap body n m a b c d h lp lg fits le =
     let p1 : take n (take m xs) ≡ take n xs = take-take n m xs (omega arith) in
     let p2 : take n xs ≡ pre = sym p1 ∙ (ap (take n) h ∙ take-at pre (gap ++ body) n lp) in
     let back : drop (n + 4) (take m ys) ≡ drop (n + 4) (take m xs) =
-      subst (λ (q : ℕ). drop (n + 4) (take q ys) ≡ drop (n + 4) (take q xs)) e (drop-take (n + 4) k ys ∙ (ap (take k) (four-rest xs n a b c d) ∙ sym (drop-take (n + 4) k xs))) in
+    subst (λ (q : ℕ). drop (n + 4) (take q ys) ≡ drop (n + 4) (take q xs)) e (drop-take (n + 4) k ys ∙ (ap (take k) (four-rest xs n a b c d) ∙ sym (drop-take (n + 4) k xs))) in
     let lg2 : length (pre ++ gap) ≡ n + 4 = length-append pre gap ∙ omega arith in
     let back2 : drop (n + 4) (take m xs) ≡ body = ap (drop (n + 4)) (h ∙ sym (append-assoc pre gap body)) ∙ drop-at (pre ++ gap) body (n + 4) lg2 in
     sym (take-append-drop (n + 4) (take m ys)) ∙ (ap (λ (l : List ℕ). l ++ drop (n + 4) (take m ys)) (front ∙ ap (λ (l : List ℕ). l ++ (a ∷ b ∷ c ∷ d ∷ [])) p2) ∙ (ap (λ (l : List ℕ). (pre ++ (a ∷ b ∷ c ∷ d ∷ [])) ++ l) (back ∙ back2) ∙ append-assoc pre (a ∷ b ∷ c ∷ d ∷ []) body))

@@ -570,7 +570,7 @@ if-words xs y1 y2 y3 len m1 m2 m3 u v w e a b h1 h2 h3 l1 l2 l3 lim s1 s2 s3 iu 
     let t2 = length-take-le m2 y2 (omega arith) in
     let k3 = long draftOf sizeOf draft-length y3 (take m2 y2) b m3 h3 (omega arith) in
     let all : take m3 y3 ≡ take (len + 4) xs ++ (codeOf e ++ (draftOf a ++ draftOf b)) =
-      h3 ∙ (ap (λ (q : List ℕ). q ++ draftOf b) (h2 ∙ ap (λ (q : List ℕ). q ++ draftOf a) h1) ∙ (append-assoc (take (len + 4) xs ++ codeOf e) (draftOf a) (draftOf b) ∙ append-assoc (take (len + 4) xs) (codeOf e) (draftOf a ++ draftOf b))) in
+    h3 ∙ (ap (λ (q : List ℕ). q ++ draftOf b) (h2 ∙ ap (λ (q : List ℕ). q ++ draftOf a) h1) ∙ (append-assoc (take (len + 4) xs ++ codeOf e) (draftOf a) (draftOf b) ∙ append-assoc (take (len + 4) xs) (codeOf e) (draftOf a ++ draftOf b))) in
     let eu : u ≡ 1 + (exprSize e + sizeOf a) = iu ∙ units-are m2 len _ (omega arith) in
     let ev : v ≡ 1 + (exprSize e + (sizeOf a + sizeOf b)) = iv ∙ units-are m3 len _ (omega arith) in
     let ew : w ≡ exprSize e = iw ∙ units-are m1 (len + 4) _ (omega arith) in

@@ -72,6 +72,7 @@ tries-bad t p (inr h) = let e : leb t 32 ≡ false = not-le t 32 (h .1) in cut (
   where
     not-le : (a b : ℕ) → b < a → leb a b ≡ false
     not-le a b h = grind (arith, tells)
+
     cut : (x y z : Bool) → y ≡ false → (x && y) && z ≡ false
     cut true false z e = refl
     cut false false z e = refl
@@ -358,6 +359,7 @@ fine-of k es t p h =
   where
     below-of : (k : ℕ) → ltb k 4294967296 ≡ true → k < 4294967296
     below-of k h = grind (arith, tells)
+
     most-of : (k : ℕ) → leb k 16 ≡ true → k ≤ 16
     most-of k h = grind (arith, tells)
 
@@ -419,13 +421,13 @@ task-words xs ys len m v k t p u es h le lim same is count ic =
     let e12 : len + 12 + 4 ≡ len + 16 = omega arith in
     let e8 : len + 8 + 4 ≡ len + 12 = omega arith in
     let e4 : len + 4 + 4 ≡ len + 8 = omega arith in
-    let w1 : take m (put4 ys (len + 12) 0 0 0 0) ≡ take (len + 12) xs ++ (0 ∷ 0 ∷ 0 ∷ 0 ∷ codesOf es) = head-words xs ys (codesOf es) (len + 12) m 0 0 0 0 (h ∙ ap (λ (x : ℕ). take x xs ++ codesOf es) (sym e12)) (omega arith) same (omega arith) in
-    let w2 : take m (put4 (put4 ys (len + 12) 0 0 0 0) (len + 8) 0 0 0 0) ≡ take (len + 8) xs ++ (0 ∷ 0 ∷ 0 ∷ 0 ∷ 0 ∷ 0 ∷ 0 ∷ 0 ∷ codesOf es) = head-words xs _ _ (len + 8) m 0 0 0 0 (w1 ∙ ap (λ (x : ℕ). take x xs ++ (0 ∷ 0 ∷ 0 ∷ 0 ∷ codesOf es)) (sym e8)) (omega arith) l1 (omega arith) in
-    let w3 = head-words xs _ _ (len + 4) m k t p count (w2 ∙ ap (λ (x : ℕ). take x xs ++ (0 ∷ 0 ∷ 0 ∷ 0 ∷ 0 ∷ 0 ∷ 0 ∷ 0 ∷ codesOf es)) (sym e4)) (omega arith) l2 (omega arith) in
+    let ws1 : take m (put4 ys (len + 12) 0 0 0 0) ≡ take (len + 12) xs ++ (0 ∷ 0 ∷ 0 ∷ 0 ∷ codesOf es) = head-words xs ys (codesOf es) (len + 12) m 0 0 0 0 (h ∙ ap (λ (x : ℕ). take x xs ++ codesOf es) (sym e12)) (omega arith) same (omega arith) in
+    let ws2 : take m (put4 (put4 ys (len + 12) 0 0 0 0) (len + 8) 0 0 0 0) ≡ take (len + 8) xs ++ (0 ∷ 0 ∷ 0 ∷ 0 ∷ 0 ∷ 0 ∷ 0 ∷ 0 ∷ codesOf es) = head-words xs _ _ (len + 8) m 0 0 0 0 (ws1 ∙ ap (λ (x : ℕ). take x xs ++ (0 ∷ 0 ∷ 0 ∷ 0 ∷ codesOf es)) (sym e8)) (omega arith) l1 (omega arith) in
+    let ws3 = head-words xs _ _ (len + 4) m k t p count (ws2 ∙ ap (λ (x : ℕ). take x xs ++ (0 ∷ 0 ∷ 0 ∷ 0 ∷ 0 ∷ 0 ∷ 0 ∷ 0 ∷ codesOf es)) (sym e4)) (omega arith) l2 (omega arith) in
     let lt = length-take-le (len + 16) xs (omega arith) in
     let lm = long codesOf sizes codes-length ys (take (len + 16) xs) es m h (omega arith) in
     let eu : u ≡ 4 + sizes es = is ∙ units-are m len _ (omega arith) in
-    head-words xs _ _ len m 2 v u 0 w3 (omega arith) l3 (omega arith) ∙ (rw (eu, ic) refl)
+    head-words xs _ _ len m 2 v u 0 ws3 (omega arith) l3 (omega arith) ∙ (rw (eu, ic) refl)
 
 -- hearing
 abbrev Same : ℕ → Heard → Type 0

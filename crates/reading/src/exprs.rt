@@ -114,19 +114,37 @@ fn unit(out: &mut [u64], len: usize, kind: u64, value: u64)
 }
 
 // A number or a variable.
-pub fn leaf(found: Lexeme, len: usize, kind: u64, value: u64, out: &mut [u64]) -> Result<Cursor, NoPlan>
+pub fn leaf(
+    found: Lexeme,
+    len: usize,
+    kind: u64,
+    value: u64,
+    out: &mut [u64],
+) -> Result<Cursor, NoPlan>
     requires { ⌜ len ≤ length (now out) ⌝ }
     ensures { λ r. ⌜ Leaf r (found .next) len kind value (now (out .entry)) (now (out .exit)) ⌝ }
 {
     if out.len() - len < 4 {
-        return Err(NoPlan { at: found.start, expected: Expected::Size });
+        return Err(NoPlan {
+            at: found.start,
+            expected: Expected::Size,
+        });
     }
     unit(out, len, kind, value);
-    Ok(Cursor { pos: found.next, len: len + 4 })
+    Ok(Cursor {
+        pos: found.next,
+        len: len + 4,
+    })
 }
 
 // Operations of a level and of those that bind tighter, from the left.
-pub fn chain(level: Level, text: &[u8], at: Cursor, out: &mut [u64], deep: usize) -> Result<Cursor, NoPlan>
+pub fn chain(
+    level: Level,
+    text: &[u8],
+    at: Cursor,
+    out: &mut [u64],
+    deep: usize,
+) -> Result<Cursor, NoPlan>
     requires within { ⌜ at .pos ≤ length (now text) ⌝ }
     requires room { ⌜ at .len ≤ length (now out) ⌝ }
     ensures forth { λ r. ⌜ Further r 1 at (length (now (text .entry))) (length (now (out .entry))) ⌝ }
@@ -140,7 +158,13 @@ pub fn chain(level: Level, text: &[u8], at: Cursor, out: &mut [u64], deep: usize
 }
 
 // What is behind a first operand, whose units are the last ones written.
-fn more(level: Level, text: &[u8], at: Cursor, out: &mut [u64], deep: usize) -> Result<Cursor, NoPlan>
+fn more(
+    level: Level,
+    text: &[u8],
+    at: Cursor,
+    out: &mut [u64],
+    deep: usize,
+) -> Result<Cursor, NoPlan>
     requires within { ⌜ at .pos ≤ length (now text) ⌝ }
     requires room { ⌜ at .len ≤ length (now out) ⌝ }
     ensures forth { λ r. ⌜ Further r 0 at (length (now (text .entry))) (length (now (out .entry))) ⌝ }
@@ -150,13 +174,28 @@ fn more(level: Level, text: &[u8], at: Cursor, out: &mut [u64], deep: usize) -> 
     let Some(operator) = joins(level, found.token) else {
         return Ok(at);
     };
-    let right = Cursor { pos: found.next, len: at.len };
+    let right = Cursor {
+        pos: found.next,
+        len: at.len,
+    };
     let c = chain(below(level), text, right, out, deep)?;
     if out.len() - c.len < 4 {
-        return Err(NoPlan { at: found.start, expected: Expected::Size });
+        return Err(NoPlan {
+            at: found.start,
+            expected: Expected::Size,
+        });
     }
     unit(out, c.len, kind_of(operator), ((c.len - at.len) / 4) as u64);
-    more(level, text, Cursor { pos: c.pos, len: c.len + 4 }, out, deep)
+    more(
+        level,
+        text,
+        Cursor {
+            pos: c.pos,
+            len: c.len + 4,
+        },
+        out,
+        deep,
+    )
 }
 
 // A number, a variable, a negation or a bracket.
@@ -172,36 +211,80 @@ fn unary(text: &[u8], at: Cursor, out: &mut [u64], deep: usize) -> Result<Cursor
         Opening::Variable(v) => leaf(found, at.len, kinds::VARIABLE, v, out),
         Opening::Negation => negation(text, found, at.len, out, deep),
         Opening::Bracket => bracket(text, found, at.len, out, deep),
-        Opening::Nothing => Err(NoPlan { at: found.start, expected: Expected::Expression }),
+        Opening::Nothing => Err(NoPlan {
+            at: found.start,
+            expected: Expected::Expression,
+        }),
     }
 }
 
 // Behind the word not.
-fn negation(text: &[u8], found: Lexeme, len: usize, out: &mut [u64], deep: usize) -> Result<Cursor, NoPlan>
+fn negation(
+    text: &[u8],
+    found: Lexeme,
+    len: usize,
+    out: &mut [u64],
+    deep: usize,
+) -> Result<Cursor, NoPlan>
     requires within { ⌜ found .next ≤ length (now text) ⌝ }
     requires room { ⌜ len ≤ length (now out) ⌝ }
     ensures forth { λ r. ⌜ Onwards r (found .next) len (length (now (text .entry))) (length (now (out .entry))) ⌝ }
     ensures read { λ r. ⌜ ((l : Lexed) → l ≡ behindNot (now (text .entry)) (found .next) → ReadFrom r (exprAt Unary deep) l (now (text .entry)) (take len (now (out .entry))) (now (out .exit))) ⌝ }
 {
-    let c = unary(text, Cursor { pos: found.next, len }, out, deep)?;
+    let c = unary(
+        text,
+        Cursor {
+            pos: found.next,
+            len,
+        },
+        out,
+        deep,
+    )?;
     if out.len() - c.len < 4 {
-        return Err(NoPlan { at: found.start, expected: Expected::Size });
+        return Err(NoPlan {
+            at: found.start,
+            expected: Expected::Size,
+        });
     }
     unit(out, c.len, kinds::NOT, 0);
-    Ok(Cursor { pos: c.pos, len: c.len + 4 })
+    Ok(Cursor {
+        pos: c.pos,
+        len: c.len + 4,
+    })
 }
 
 // Behind an opening bracket.
-fn bracket(text: &[u8], found: Lexeme, len: usize, out: &mut [u64], deep: usize) -> Result<Cursor, NoPlan>
+fn bracket(
+    text: &[u8],
+    found: Lexeme,
+    len: usize,
+    out: &mut [u64],
+    deep: usize,
+) -> Result<Cursor, NoPlan>
     requires within { ⌜ found .next ≤ length (now text) ⌝ }
     requires room { ⌜ len ≤ length (now out) ⌝ }
     ensures forth { λ r. ⌜ Onwards r (found .next) len (length (now (text .entry))) (length (now (out .entry))) ⌝ }
     ensures read { λ r. ⌜ ((l : Lexed) → l ≡ behindOpen (now (text .entry)) (found .next) → ReadFrom r (exprAt Unary deep) l (now (text .entry)) (take len (now (out .entry))) (now (out .exit))) ⌝ }
 {
     if deep == 0 {
-        return Err(NoPlan { at: found.start, expected: Expected::Brackets });
+        return Err(NoPlan {
+            at: found.start,
+            expected: Expected::Brackets,
+        });
     }
-    let c = chain(Level::Compare, text, Cursor { pos: found.next, len }, out, deep - 1)?;
+    let c = chain(
+        Level::Compare,
+        text,
+        Cursor {
+            pos: found.next,
+            len,
+        },
+        out,
+        deep - 1,
+    )?;
     let next = tokens::key(text, c.pos, Key::Close)?;
-    Ok(Cursor { pos: next, len: c.len })
+    Ok(Cursor {
+        pos: next,
+        len: c.len,
+    })
 }

@@ -39,20 +39,43 @@ pub fn head(out: &mut [u64], len: usize, kind: u64, second: u64, third: u64, fou
 }
 
 // An expression behind four words that are kept for a head.
-pub fn headed(text: &[u8], start: usize, pos: usize, len: usize, out: &mut [u64]) -> Result<Cursor, NoPlan>
+pub fn headed(
+    text: &[u8],
+    start: usize,
+    pos: usize,
+    len: usize,
+    out: &mut [u64],
+) -> Result<Cursor, NoPlan>
     requires within { ⌜ pos ≤ length (now text) ⌝ }
     requires room { ⌜ len ≤ length (now out) ⌝ }
     ensures forth { λ r. ⌜ Onwards r (pos + 1) (len + 4) (length (now (text .entry))) (length (now (out .entry))) ⌝ }
     ensures read { λ r. ⌜ ReadExpr r wholeExpr (now (text .entry)) pos (take (len + 4) (now (out .entry))) (now (out .exit)) ⌝ }
 {
     if out.len() - len < 4 {
-        return Err(NoPlan { at: start, expected: Expected::Size });
+        return Err(NoPlan {
+            at: start,
+            expected: Expected::Size,
+        });
     }
-    chain(Level::Compare, text, Cursor { pos, len: len + 4 }, out, BRACKETS)
+    chain(
+        Level::Compare,
+        text,
+        Cursor { pos, len: len + 4 },
+        out,
+        BRACKETS,
+    )
 }
 
 // A statement that is an expression with a word, or a word and a variable, before it.
-pub fn with_expr(text: &[u8], start: usize, pos: usize, len: usize, out: &mut [u64], kind: u64, second: u64) -> Result<Cursor, NoPlan>
+pub fn with_expr(
+    text: &[u8],
+    start: usize,
+    pos: usize,
+    len: usize,
+    out: &mut [u64],
+    kind: u64,
+    second: u64,
+) -> Result<Cursor, NoPlan>
     requires within { ⌜ pos ≤ length (now text) ⌝ }
     requires room { ⌜ len ≤ length (now out) ⌝ }
     ensures forth { λ r. ⌜ Onwards r pos len (length (now (text .entry))) (length (now (out .entry))) ⌝ }
@@ -64,7 +87,13 @@ pub fn with_expr(text: &[u8], start: usize, pos: usize, len: usize, out: &mut [u
 }
 
 // Behind the word set.
-pub fn assignment(text: &[u8], start: usize, pos: usize, len: usize, out: &mut [u64]) -> Result<Cursor, NoPlan>
+pub fn assignment(
+    text: &[u8],
+    start: usize,
+    pos: usize,
+    len: usize,
+    out: &mut [u64],
+) -> Result<Cursor, NoPlan>
     requires within { ⌜ pos ≤ length (now text) ⌝ }
     requires room { ⌜ len ≤ length (now out) ⌝ }
     ensures forth { λ r. ⌜ Onwards r pos len (length (now (text .entry))) (length (now (out .entry))) ⌝ }

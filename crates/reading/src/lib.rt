@@ -6,12 +6,14 @@ ghost use Rattle.text.specs.Ahead.{stops};
 ghost use Rattle.plans.specs.Plan.{Block, sizeOf};
 ghost use Rattle.plans.specs.Flat.{draftOf, laid};
 ghost use Rattle.reading.specs.Plans.{ReadPlan, Reads, Writes};
+
 pub mod error;
 mod exprs;
 mod heads;
 mod stmts;
 mod tasks;
 mod tokens;
+
 use error::Expected;
 use error::NoPlan;
 use error::ReadError;
@@ -39,12 +41,18 @@ fn read_draft(text: &[u8], draft: &mut [u64]) -> Result<usize, NoPlan>
     ensures { λ r. ⌜ ReadPlan r (now (text .entry)) (now (draft .exit)) ⌝ }
 {
     if text.len() > LONGEST_TEXT {
-        return Err(NoPlan { at: LONGEST_TEXT, expected: Expected::Length });
+        return Err(NoPlan {
+            at: LONGEST_TEXT,
+            expected: Expected::Length,
+        });
     }
     let c = stmts::part(text, Cursor { pos: 0, len: 0 }, draft)?;
     let found = token_at(text, c.pos);
     if !stops_at(found.token) {
-        return Err(NoPlan { at: found.start, expected: Expected::End });
+        return Err(NoPlan {
+            at: found.start,
+            expected: Expected::End,
+        });
     }
     Ok(c.len / 4)
 }

@@ -74,7 +74,10 @@ fn opened(text: &[u8], pos: usize, len: usize, out: &mut [u64]) -> Result<Cursor
     let first = tokens::key(text, pos, Key::Begin)?;
     let c = part(text, Cursor { pos: first, len }, out)?;
     let next = tokens::key(text, c.pos, Key::End)?;
-    Ok(Cursor { pos: next, len: c.len })
+    Ok(Cursor {
+        pos: next,
+        len: c.len,
+    })
 }
 
 // The word else, and a part in braces.
@@ -89,7 +92,13 @@ fn other(text: &[u8], pos: usize, len: usize, out: &mut [u64]) -> Result<Cursor,
 }
 
 // Behind the word if.
-fn fork(text: &[u8], start: usize, pos: usize, len: usize, out: &mut [u64]) -> Result<Cursor, NoPlan>
+fn fork(
+    text: &[u8],
+    start: usize,
+    pos: usize,
+    len: usize,
+    out: &mut [u64],
+) -> Result<Cursor, NoPlan>
     requires within { ⌜ pos ≤ length (now text) ⌝ }
     requires room { ⌜ len ≤ length (now out) ⌝ }
     ensures forth { λ r. ⌜ Onwards r pos len (length (now (text .entry))) (length (now (out .entry))) ⌝ }
@@ -98,12 +107,25 @@ fn fork(text: &[u8], start: usize, pos: usize, len: usize, out: &mut [u64]) -> R
     let c = headed(text, start, pos, len, out)?;
     let first = opened(text, c.pos, c.len, out)?;
     let last = other(text, first.pos, first.len, out)?;
-    head(out, len, kinds::IF, units(len, first.len), units(len, last.len), units(len + 4, c.len));
+    head(
+        out,
+        len,
+        kinds::IF,
+        units(len, first.len),
+        units(len, last.len),
+        units(len + 4, c.len),
+    );
     Ok(last)
 }
 
 // Behind the word while.
-fn turning(text: &[u8], start: usize, pos: usize, len: usize, out: &mut [u64]) -> Result<Cursor, NoPlan>
+fn turning(
+    text: &[u8],
+    start: usize,
+    pos: usize,
+    len: usize,
+    out: &mut [u64],
+) -> Result<Cursor, NoPlan>
     requires within { ⌜ pos ≤ length (now text) ⌝ }
     requires room { ⌜ len ≤ length (now out) ⌝ }
     ensures forth { λ r. ⌜ Onwards r pos len (length (now (text .entry))) (length (now (out .entry))) ⌝ }
@@ -111,23 +133,46 @@ fn turning(text: &[u8], start: usize, pos: usize, len: usize, out: &mut [u64]) -
 {
     let c = headed(text, start, pos, len, out)?;
     let last = opened(text, c.pos, c.len, out)?;
-    head(out, len, kinds::WHILE, 0, units(len, last.len), units(len + 4, c.len));
+    head(
+        out,
+        len,
+        kinds::WHILE,
+        0,
+        units(len, last.len),
+        units(len + 4, c.len),
+    );
     Ok(last)
 }
 
 // Behind the word guard.
-fn guarded(text: &[u8], start: usize, pos: usize, len: usize, out: &mut [u64]) -> Result<Cursor, NoPlan>
+fn guarded(
+    text: &[u8],
+    start: usize,
+    pos: usize,
+    len: usize,
+    out: &mut [u64],
+) -> Result<Cursor, NoPlan>
     requires within { ⌜ pos ≤ length (now text) ⌝ }
     requires room { ⌜ len ≤ length (now out) ⌝ }
     ensures forth { λ r. ⌜ Onwards r pos len (length (now (text .entry))) (length (now (out .entry))) ⌝ }
     ensures read { λ r. ⌜ ReadStmt r guardAt (ahead (now (text .entry)) pos) (now (text .entry)) (take len (now (out .entry))) (now (out .exit)) ⌝ }
 {
     if out.len() - len < 4 {
-        return Err(NoPlan { at: start, expected: Expected::Size });
+        return Err(NoPlan {
+            at: start,
+            expected: Expected::Size,
+        });
     }
     let first = opened(text, pos, len + 4, out)?;
     let last = other(text, first.pos, first.len, out)?;
-    head(out, len, kinds::GUARD, units(len, first.len), units(len, last.len), 0);
+    head(
+        out,
+        len,
+        kinds::GUARD,
+        units(len, first.len),
+        units(len, last.len),
+        0,
+    );
     Ok(last)
 }
 
@@ -137,10 +182,16 @@ fn failure(found: Lexeme, len: usize, out: &mut [u64]) -> Result<Cursor, NoPlan>
     ensures { λ r. ⌜ Failure r (found .next) len (now (out .entry)) (now (out .exit)) ⌝ }
 {
     if out.len() - len < 4 {
-        return Err(NoPlan { at: found.start, expected: Expected::Size });
+        return Err(NoPlan {
+            at: found.start,
+            expected: Expected::Size,
+        });
     }
     head(out, len, kinds::FAIL, 0, 1, 0);
-    Ok(Cursor { pos: found.next, len: len + 4 })
+    Ok(Cursor {
+        pos: found.next,
+        len: len + 4,
+    })
 }
 
 // The statement that begins with this token.
@@ -161,7 +212,10 @@ fn statement(text: &[u8], found: Lexeme, len: usize, out: &mut [u64]) -> Result<
         Beginning::Return => with_expr(text, start, next, len, out, kinds::RETURN, 0),
         Beginning::Fail => failure(found, len, out),
         Beginning::Variable(v) => behind_variable(text, start, v, next, len, out),
-        Beginning::Nothing => Err(NoPlan { at: start, expected: Expected::Statement }),
+        Beginning::Nothing => Err(NoPlan {
+            at: start,
+            expected: Expected::Statement,
+        }),
     }
 }
 
@@ -174,7 +228,11 @@ pub fn part(text: &[u8], at: Cursor, out: &mut [u64]) -> Result<Cursor, NoPlan>
 {
     let found = token_at(text, at.pos);
     if ends(found.token) {
-        let end = Lexeme { token: found.token, start: found.start, next: at.pos };
+        let end = Lexeme {
+            token: found.token,
+            start: found.start,
+            next: at.pos,
+        };
         return leaf(end, at.len, kinds::PART, 0, out);
     }
     let c = statement(text, found, at.len, out)?;

@@ -24,8 +24,11 @@ use text::token_at;
 
 // The largest kind, how often a task may be tried, its longest pause in ms, and its most arguments.
 const MOST_KIND: u64 = 4294967295;
+
 const MOST_TRIES: u64 = 32;
+
 const LONGEST_PAUSE: u64 = 86400000;
+
 const MOST_ARGUMENTS: u64 = 16;
 
 // How often a task is tried, and the pause behind its first try.
@@ -67,10 +70,17 @@ fn task_front(text: &[u8], pos: usize) -> Result<Found, NoPlan>
     let first = tokens::key(text, pos, Key::Do)?;
     let kind = tokens::number(text, first)?;
     if kind.value > MOST_KIND {
-        return Err(NoPlan { at: kind.start, expected: Expected::Kind });
+        return Err(NoPlan {
+            at: kind.start,
+            expected: Expected::Kind,
+        });
     }
     let next = tokens::key(text, kind.next, Key::Open)?;
-    Ok(Found { value: kind.value, start: kind.start, next })
+    Ok(Found {
+        value: kind.value,
+        start: kind.start,
+        next,
+    })
 }
 
 // Behind the arguments: tries and pause.
@@ -81,14 +91,24 @@ fn task_back(text: &[u8], pos: usize) -> Result<Back, NoPlan>
     let first = tokens::key(text, pos, Key::Tries)?;
     let tries = tokens::number(text, first)?;
     if tries.value == 0 || tries.value > MOST_TRIES {
-        return Err(NoPlan { at: tries.start, expected: Expected::Tries });
+        return Err(NoPlan {
+            at: tries.start,
+            expected: Expected::Tries,
+        });
     }
     let then = tokens::key(text, tries.next, Key::Pause)?;
     let pause = tokens::number(text, then)?;
     if pause.value > LONGEST_PAUSE {
-        return Err(NoPlan { at: pause.start, expected: Expected::Pause });
+        return Err(NoPlan {
+            at: pause.start,
+            expected: Expected::Pause,
+        });
     }
-    Ok(Back { tries: tries.value, pause: pause.value, next: pause.next })
+    Ok(Back {
+        tries: tries.value,
+        pause: pause.value,
+        next: pause.next,
+    })
 }
 
 // Behind an argument: others, and the closing bracket.
@@ -101,13 +121,29 @@ fn more_arguments(text: &[u8], at: Cursor, out: &mut [u64], count: u64) -> Resul
 {
     let found = token_at(text, at.pos);
     if closes(found.token) {
-        return Ok(Args { pos: found.next, len: at.len, count });
+        return Ok(Args {
+            pos: found.next,
+            len: at.len,
+            count,
+        });
     }
     let next = tokens::key(text, at.pos, Key::Comma)?;
     if count >= MOST_ARGUMENTS {
-        return Err(NoPlan { at: found.start, expected: Expected::Arguments });
+        return Err(NoPlan {
+            at: found.start,
+            expected: Expected::Arguments,
+        });
     }
-    let c = chain(Level::Compare, text, Cursor { pos: next, len: at.len }, out, BRACKETS)?;
+    let c = chain(
+        Level::Compare,
+        text,
+        Cursor {
+            pos: next,
+            len: at.len,
+        },
+        out,
+        BRACKETS,
+    )?;
     more_arguments(text, c, out, count + 1)
 }
 
@@ -120,14 +156,25 @@ fn arguments(text: &[u8], pos: usize, len: usize, out: &mut [u64]) -> Result<Arg
 {
     let found = token_at(text, pos);
     if closes(found.token) {
-        return Ok(Args { pos: found.next, len, count: 0 });
+        return Ok(Args {
+            pos: found.next,
+            len,
+            count: 0,
+        });
     }
     let c = chain(Level::Compare, text, Cursor { pos, len }, out, BRACKETS)?;
     more_arguments(text, c, out, 1)
 }
 
 // Behind a variable and =.
-fn task(text: &[u8], start: usize, v: u64, pos: usize, len: usize, out: &mut [u64]) -> Result<Cursor, NoPlan>
+fn task(
+    text: &[u8],
+    start: usize,
+    v: u64,
+    pos: usize,
+    len: usize,
+    out: &mut [u64],
+) -> Result<Cursor, NoPlan>
     requires within { ⌜ pos ≤ length (now text) ⌝ }
     requires room { ⌜ len ≤ length (now out) ⌝ }
     ensures forth { λ r. ⌜ Onwards r pos len (length (now (text .entry))) (length (now (out .entry))) ⌝ }
@@ -135,15 +182,28 @@ fn task(text: &[u8], start: usize, v: u64, pos: usize, len: usize, out: &mut [u6
 {
     let front = task_front(text, pos)?;
     if out.len() - len < 16 {
-        return Err(NoPlan { at: start, expected: Expected::Size });
+        return Err(NoPlan {
+            at: start,
+            expected: Expected::Size,
+        });
     }
     let args = arguments(text, front.next, len + 16, out)?;
     let back = task_back(text, args.pos)?;
     head(out, len + 12, 0, 0, 0, 0);
     head(out, len + 8, 0, 0, 0, 0);
-    head(out, len + 4, front.value, back.tries, back.pause, args.count);
+    head(
+        out,
+        len + 4,
+        front.value,
+        back.tries,
+        back.pause,
+        args.count,
+    );
     head(out, len, kinds::DO, v, units(len, args.len), 0);
-    Ok(Cursor { pos: back.next, len: args.len })
+    Ok(Cursor {
+        pos: back.next,
+        len: args.len,
+    })
 }
 
 // Behind a variable and a comma: another variable, =, hear, a name and for.
@@ -153,13 +213,21 @@ fn hearing_front(text: &[u8], v: u64, pos: usize) -> Result<Hearing, NoPlan>
 {
     let other = tokens::variable(text, pos)?;
     if other.value == v {
-        return Err(NoPlan { at: other.start, expected: Expected::OtherVariable });
+        return Err(NoPlan {
+            at: other.start,
+            expected: Expected::OtherVariable,
+        });
     }
     let hears = tokens::same(text, other.next)?;
     let first = tokens::key(text, hears, Key::Hear)?;
     let name = tokens::name(text, first)?;
     let next = tokens::key(text, name.next, Key::For)?;
-    Ok(Hearing { other: other.value, start: name.start, end: name.next, next })
+    Ok(Hearing {
+        other: other.value,
+        start: name.start,
+        end: name.next,
+        next,
+    })
 }
 
 // The letter at a place of a name, and 0 behind it.
@@ -184,7 +252,14 @@ fn write_name(out: &mut [u64], at: usize, name: &[u8])
 }
 
 // Behind a variable and a comma.
-fn hear(text: &[u8], start: usize, v: u64, pos: usize, len: usize, out: &mut [u64]) -> Result<Cursor, NoPlan>
+fn hear(
+    text: &[u8],
+    start: usize,
+    v: u64,
+    pos: usize,
+    len: usize,
+    out: &mut [u64],
+) -> Result<Cursor, NoPlan>
     requires within { ⌜ pos ≤ length (now text) ⌝ }
     requires room { ⌜ len ≤ length (now out) ⌝ }
     ensures forth { λ r. ⌜ Onwards r pos len (length (now (text .entry))) (length (now (out .entry))) ⌝ }
@@ -192,9 +267,21 @@ fn hear(text: &[u8], start: usize, v: u64, pos: usize, len: usize, out: &mut [u6
 {
     let front = hearing_front(text, v, pos)?;
     if out.len() - len < 68 {
-        return Err(NoPlan { at: start, expected: Expected::Size });
+        return Err(NoPlan {
+            at: start,
+            expected: Expected::Size,
+        });
     }
-    let c = chain(Level::Compare, text, Cursor { pos: front.next, len: len + 68 }, out, BRACKETS)?;
+    let c = chain(
+        Level::Compare,
+        text,
+        Cursor {
+            pos: front.next,
+            len: len + 68,
+        },
+        out,
+        BRACKETS,
+    )?;
     let first = front.start;
     let end = front.end;
     write_name(out, len + 4, &text[first..end]);
@@ -203,7 +290,14 @@ fn hear(text: &[u8], start: usize, v: u64, pos: usize, len: usize, out: &mut [u6
 }
 
 // Behind the variable that a statement begins with.
-pub fn behind_variable(text: &[u8], start: usize, v: u64, pos: usize, len: usize, out: &mut [u64]) -> Result<Cursor, NoPlan>
+pub fn behind_variable(
+    text: &[u8],
+    start: usize,
+    v: u64,
+    pos: usize,
+    len: usize,
+    out: &mut [u64],
+) -> Result<Cursor, NoPlan>
     requires within { ⌜ pos ≤ length (now text) ⌝ }
     requires room { ⌜ len ≤ length (now out) ⌝ }
     ensures forth { λ r. ⌜ Onwards r pos len (length (now (text .entry))) (length (now (out .entry))) ⌝ }
@@ -215,5 +309,8 @@ pub fn behind_variable(text: &[u8], start: usize, v: u64, pos: usize, len: usize
     if let Ok(next) = tokens::key(text, pos, Key::Comma) {
         return hear(text, start, v, next, len, out);
     }
-    Err(NoPlan { at: token_at(text, pos).start, expected: Expected::Assignment })
+    Err(NoPlan {
+        at: token_at(text, pos).start,
+        expected: Expected::Assignment,
+    })
 }

@@ -63,7 +63,10 @@ pub fn key(text: &[u8], pos: usize, want: Key) -> Result<usize, NoPlan>
             return Ok(found.next);
         }
     }
-    Err(NoPlan { at: found.start, expected: Expected::Word(want) })
+    Err(NoPlan {
+        at: found.start,
+        expected: Expected::Word(want),
+    })
 }
 
 fn is_same(token: Token) -> bool
@@ -84,7 +87,10 @@ pub fn same(text: &[u8], pos: usize) -> Result<usize, NoPlan>
     if is_same(found.token) {
         return Ok(found.next);
     }
-    Err(NoPlan { at: found.start, expected: Expected::Same })
+    Err(NoPlan {
+        at: found.start,
+        expected: Expected::Same,
+    })
 }
 
 pub fn number(text: &[u8], pos: usize) -> Result<Found, NoPlan>
@@ -93,9 +99,16 @@ pub fn number(text: &[u8], pos: usize) -> Result<Found, NoPlan>
 {
     let found = token_at(text, pos);
     if let Token::Number(value) = found.token {
-        return Ok(Found { value, start: found.start, next: found.next });
+        return Ok(Found {
+            value,
+            start: found.start,
+            next: found.next,
+        });
     }
-    Err(NoPlan { at: found.start, expected: Expected::Number })
+    Err(NoPlan {
+        at: found.start,
+        expected: Expected::Number,
+    })
 }
 
 pub fn variable(text: &[u8], pos: usize) -> Result<Found, NoPlan>
@@ -104,9 +117,16 @@ pub fn variable(text: &[u8], pos: usize) -> Result<Found, NoPlan>
 {
     let found = token_at(text, pos);
     if let Token::Variable(value) = found.token {
-        return Ok(Found { value, start: found.start, next: found.next });
+        return Ok(Found {
+            value,
+            start: found.start,
+            next: found.next,
+        });
     }
-    Err(NoPlan { at: found.start, expected: Expected::Variable })
+    Err(NoPlan {
+        at: found.start,
+        expected: Expected::Variable,
+    })
 }
 
 pub fn name(text: &[u8], pos: usize) -> Result<Named, NoPlan>
@@ -115,7 +135,13 @@ pub fn name(text: &[u8], pos: usize) -> Result<Named, NoPlan>
 {
     let found = token_at(text, pos);
     if let Token::Name = found.token {
-        return Ok(Named { start: found.start, next: found.next });
+        return Ok(Named {
+            start: found.start,
+            next: found.next,
+        });
     }
-    Err(NoPlan { at: found.start, expected: Expected::Name })
+    Err(NoPlan {
+        at: found.start,
+        expected: Expected::Name,
+    })
 }

@@ -5,7 +5,15 @@ use std::io::BufReader;
 
 // Does a line of a script begin with one of the words for calls.
 fn is_call(word: &str) -> bool {
-    word == "start" || word == "tell" || word == "cancel" || word == "take" || word == "longer" || word == "report" || word == "show" || word == "forget" || word == "time"
+    word == "start"
+        || word == "tell"
+        || word == "cancel"
+        || word == "take"
+        || word == "longer"
+        || word == "report"
+        || word == "show"
+        || word == "forget"
+        || word == "time"
 }
 
 fn play(rt: &LibcRuntime) -> Result<(), AnyError> {

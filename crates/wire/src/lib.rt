@@ -26,7 +26,10 @@ fn four_at(frame: &[u8], at: usize) -> u32
 fn is_call(frame: &[u8]) -> bool
     ensures { λ r. ⌜ r ≡ isCall (now (frame .entry)) ⌝ }
 {
-    frame.len() >= 9 && u64::from(four_at(frame, 0)) + 4 == frame.len() as u64 && 1 <= frame[8] && frame[8] <= 9
+    frame.len() >= 9
+        && u64::from(four_at(frame, 0)) + 4 == frame.len() as u64
+        && 1 <= frame[8]
+        && frame[8] <= 9
 }
 
 // Answers a framed line.
@@ -34,7 +37,11 @@ pub fn answer(frame: &[u8]) -> Refusal
     ensures tag { λ r. ⌜ r .tag ≡ tagOf (now (frame .entry)) ⌝ }
     ensures number { λ r. ⌜ r .number ≡ refusalOf (now (frame .entry)) ⌝ }
 {
-    let tag = if frame.len() >= 8 { four_at(frame, 4) } else { 0 };
+    let tag = if frame.len() >= 8 {
+        four_at(frame, 4)
+    } else {
+        0
+    };
     let number = if is_call(frame) { 12 } else { 10 };
     Refusal { tag, number }
 }

@@ -150,4 +150,3 @@ pub link-statement-returns : need.link-statement-returns
 link-statement-returns g t c = λ s w rest d k.
     let h = head-at (c .args .draft .now) (c .args .at) s rest d in
     c .link-simple .ensures s w rest (is-simple s (λ i. c .if-kind-eq-IF .left (h .first ∙ i)) (λ i. c .if-kind-eq-WHILE .left (h .first ∙ i)) (λ i. c .if-kind-eq-GUARD .left (h .first ∙ i))) d k
-

@@ -107,7 +107,7 @@ more-returns ring c =
           let k : c .kind-of .result ≡ kindOf (c .in-Some .operator) = c .kind-of .ensures in
           let u : (c .in-Continue-c .c .len - c .args .at .len) / 4 ≡ exprSize (r .tree) = units-are (c .in-Continue-c .c .len) (c .args .at .len) (exprSize (r .tree)) (lb ∙ ap (λ (x : ℕ). x + 4 * exprSize (r .tree)) lt) in
           let w : take (c .in-Continue-c .c .len + 4) (c .unit .last .out) ≡ pre ++ codeOf (build (c .in-Some .operator) e (r .tree)) =
-            pair-words (c .unit .last .out) (c .chain .last .out) (c .args .out .now) pre (c .in-Some .operator) e (r .tree) (c .args .at .len) (c .in-Continue-c .c .len) _ h (r .words) (subst (λ (x : ℕ). take (c .in-Continue-c .c .len + 4) (c .unit .last .out) ≡ take (c .in-Continue-c .c .len) (c .chain .last .out) ++ (x ∷ ((c .in-Continue-c .c .len - c .args .at .len) / 4) ∷ 0 ∷ 0 ∷ [])) k (c .unit .ensures)) u in
+          pair-words (c .unit .last .out) (c .chain .last .out) (c .args .out .now) pre (c .in-Some .operator) e (r .tree) (c .args .at .len) (c .in-Continue-c .c .len) _ h (r .words) (subst (λ (x : ℕ). take (c .in-Continue-c .c .len + 4) (c .unit .last .out) ≡ take (c .in-Continue-c .c .len) (c .chain .last .out) ++ (x ∷ ((c .in-Continue-c .c .len - c .args .at .len) / 4) ∷ 0 ∷ 0 ∷ [])) k (c .unit .ensures)) u in
           more-read (c .args .level) (c .args .deep) (c .in-Some .operator) e (r .tree) (c .args .text .now) (c .args .at .pos) (c .token-at-found .result .next) pre (c .in-Continue-c .c .pos) (c .more .last .out) (c .more .result) (j .joins-by) a t (c .more .ensures .read pre (build (c .in-Some .operator) e (r .tree)) w);
     }
 
@@ -155,4 +155,3 @@ unary-returns-in-Variable ring c =
 
 pub unary-returns-in-Nothing : need.unary-returns-in-Nothing
 unary-returns-in-Nothing ring c = record { forth = tt; read = nothing-bar (c .args .deep) _ (c .token-at-found .result .token) _ _ _ (c .token-at-found .ensures .ahead) (stop-end (c .args .text .now) (c .args .at .pos) (c .token-at-found .result) (c .token-at-found .ensures .forth)) (sym (c .opens .ensures) ∙ c .in-Nothing .is) }
-

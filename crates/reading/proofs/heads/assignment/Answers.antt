@@ -32,4 +32,3 @@ returns c =
       forth = onwards-more (c .with-expr .result) _ _ (c .args .pos) (c .args .len) _ _ (omega (arith, c .in-Continue-v .ensures tt .1, c .in-Continue-next .ensures tt .1)) (le-refl _) (c .with-expr .ensures .forth);
       read = set-read (c .with-expr .result) v _ _ _ (c .args .text .now) (take (c .args .len) (c .args .out .now)) (c .with-expr .last .out) (c .in-Continue-v .ensures tt .0) (c .in-Continue-next .ensures tt .0) (c .with-expr .ensures .read (Set v) (set-draft v) (set-size v));
     }
-

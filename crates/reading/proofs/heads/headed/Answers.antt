@@ -20,4 +20,3 @@ returns-then-out-len-lt4 c = record { forth = tt; read = no-room wholeExpr _ _ _
 
 pub returns : need.returns
 returns c = record { forth = further-onwards (c .chain .result) _ _ _ (c .args .pos + 1) (c .args .len + 4) (le-refl _) (le-refl _) (c .chain .ensures .forth); read = whole-read (c .chain .result) (c .args .text .now) (c .args .pos) (take (c .args .len + 4) (c .args .out .now)) (c .chain .last .out) (c .chain .ensures .read) }
-

@@ -28,4 +28,3 @@ returns c =
       forth = (omega arith, f .1, omega arith, f .3);
       read = λ g d s. record { item = g (r .tree); took = step-took wholeExpr (λ e n i us. got (g e) us) (r .tree) (g (r .tree)) (r .took) (end-took (g (r .tree)) _); words = subst (λ (l : List ℕ). take (c .in-Continue-c .c .len) l ≡ take (c .args .len) (c .args .out .now) ++ draftStmt (g (r .tree))) (sym (c .head .ensures)) (with-words (c .args .out .now) (c .headed .last .out) (c .args .len) (c .in-Continue-c .c .len) (c .args .kind) (c .args .second) (c .units .result) g (r .tree) (d (r .tree)) (r .words) (f .2) (f .3) (c .headed .kept .out) (c .units .ensures)) };
     }
-

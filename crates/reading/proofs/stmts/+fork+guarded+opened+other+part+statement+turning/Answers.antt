@@ -118,7 +118,7 @@ fork-returns ring c =
         item = If (r .tree) (ra .item) (rb .item);
         took = if-took (r .tree) (ra .item) (rb .item) (r .took) (ra .took) (rb .took);
         words = subst (λ (y : List ℕ). take (c .in-Continue-last .last .len) y ≡ take (c .args .len) (c .args .out .now) ++ draftStmt (If (r .tree) (ra .item) (rb .item))) (sym (c .head .ensures))
-          (if-words (c .args .out .now) (c .headed .last .out) (c .opened .last .out) (c .other .last .out) (c .args .len) (c .in-Continue-c .c .len) (c .in-Continue-first .first .len) (c .in-Continue-last .last .len) _ _ _ (r .tree) (ra .item) (rb .item) (r .words) (ra .words) (rb .words) (omega arith) (omega arith) (omega arith) (omega (arith, fb .3)) s1 s2 s3 (c .units .ensures) (c .units-2 .ensures) (c .units-3 .ensures));
+            (if-words (c .args .out .now) (c .headed .last .out) (c .opened .last .out) (c .other .last .out) (c .args .len) (c .in-Continue-c .c .len) (c .in-Continue-first .first .len) (c .in-Continue-last .last .len) _ _ _ (r .tree) (ra .item) (rb .item) (r .words) (ra .words) (rb .words) (omega arith) (omega arith) (omega arith) (omega (arith, fb .3)) s1 s2 s3 (c .units .ensures) (c .units-2 .ensures) (c .units-3 .ensures));
       };
     }
 
@@ -136,7 +136,7 @@ turning-returns ring c =
         item = While (r .tree) (ra .item);
         took = while-took (r .tree) (ra .item) (r .took) (ra .took);
         words = subst (λ (y : List ℕ). take (c .in-Continue-last .last .len) y ≡ take (c .args .len) (c .args .out .now) ++ draftStmt (While (r .tree) (ra .item))) (sym (c .head .ensures))
-          (while-words (c .args .out .now) (c .headed .last .out) (c .opened .last .out) (c .args .len) (c .in-Continue-c .c .len) (c .in-Continue-last .last .len) _ _ (r .tree) (ra .item) (r .words) (ra .words) (omega arith) (omega arith) (omega (arith, fa .3)) s1 s2 (c .units .ensures) (c .units-2 .ensures));
+            (while-words (c .args .out .now) (c .headed .last .out) (c .opened .last .out) (c .args .len) (c .in-Continue-c .c .len) (c .in-Continue-last .last .len) _ _ (r .tree) (ra .item) (r .words) (ra .words) (omega arith) (omega arith) (omega (arith, fa .3)) s1 s2 (c .units .ensures) (c .units-2 .ensures));
       };
     }
 
@@ -173,57 +173,57 @@ guarded-returns ring c =
         item = Guard (ra .item) (rb .item);
         took = guard-took (ra .item) (rb .item) (ra .took) (rb .took);
         words = subst (λ (y : List ℕ). take (c .in-Continue-last .last .len) y ≡ take (c .args .len) (c .args .out .now) ++ draftStmt (Guard (ra .item) (rb .item))) (sym (c .head .ensures))
-          (guard-words (c .args .out .now) (c .opened .last .out) (c .other .last .out) (c .args .len) (c .in-Continue-first .first .len) (c .in-Continue-last .last .len) _ _ (ra .item) (rb .item) (ra .words) (rb .words) (omega arith) (omega arith) (omega (arith, fb .3)) s2 s3 (c .units .ensures) (c .units-2 .ensures));
+            (guard-words (c .args .out .now) (c .opened .last .out) (c .other .last .out) (c .args .len) (c .in-Continue-first .first .len) (c .in-Continue-last .last .len) _ _ (ra .item) (rb .item) (ra .words) (rb .words) (omega arith) (omega arith) (omega (arith, fb .3)) s2 s3 (c .units .ensures) (c .units-2 .ensures));
       };
     }
 
 pub statement-returns-in-Set : need.statement-returns-in-Set
 statement-returns-in-Set ring c = record {
-      forth = c .assignment .ensures .forth;
-      read = λ l h s. by-key SET setAt set-is (c .assignment .result) l (ahead (c .args .text .now) (c .args .found .next)) (c .args .text .now) (take (c .args .len) (c .args .out .now)) (c .assignment .last .out) (at-token (c .args .found .token) _ (take (c .args .found .next - c .args .found .start) (drop (c .args .found .start) (c .args .text .now))) l _ h (begins-set (c .args .found .token) (sym (c .begins .ensures) ∙ c .in-Set .is))) (c .assignment .ensures .read);
-    }
+  forth = c .assignment .ensures .forth;
+  read = λ l h s. by-key SET setAt set-is (c .assignment .result) l (ahead (c .args .text .now) (c .args .found .next)) (c .args .text .now) (take (c .args .len) (c .args .out .now)) (c .assignment .last .out) (at-token (c .args .found .token) _ (take (c .args .found .next - c .args .found .start) (drop (c .args .found .start) (c .args .text .now))) l _ h (begins-set (c .args .found .token) (sym (c .begins .ensures) ∙ c .in-Set .is))) (c .assignment .ensures .read);
+}
 
 pub statement-returns-in-Sleep : need.statement-returns-in-Sleep
 statement-returns-in-Sleep ring c = record {
-      forth = c .with-expr .ensures .forth;
-      read = λ l h s. by-key SLEEP (exprThen Sleep) sleep-is (c .with-expr .result) l (ahead (c .args .text .now) (c .args .found .next)) (c .args .text .now) (take (c .args .len) (c .args .out .now)) (c .with-expr .last .out) (at-token (c .args .found .token) _ (take (c .args .found .next - c .args .found .start) (drop (c .args .found .start) (c .args .text .now))) l _ h (begins-sleep (c .args .found .token) (sym (c .begins .ensures) ∙ c .in-Sleep .is))) (c .with-expr .ensures .read Sleep sleep-draft sleep-size);
-    }
+  forth = c .with-expr .ensures .forth;
+  read = λ l h s. by-key SLEEP (exprThen Sleep) sleep-is (c .with-expr .result) l (ahead (c .args .text .now) (c .args .found .next)) (c .args .text .now) (take (c .args .len) (c .args .out .now)) (c .with-expr .last .out) (at-token (c .args .found .token) _ (take (c .args .found .next - c .args .found .start) (drop (c .args .found .start) (c .args .text .now))) l _ h (begins-sleep (c .args .found .token) (sym (c .begins .ensures) ∙ c .in-Sleep .is))) (c .with-expr .ensures .read Sleep sleep-draft sleep-size);
+}
 
 pub statement-returns-in-If : need.statement-returns-in-If
 statement-returns-in-If ring c = record {
-      forth = c .fork .ensures .forth;
-      read = λ l h s. by-key IF ifAt if-is (c .fork .result) l (ahead (c .args .text .now) (c .args .found .next)) (c .args .text .now) (take (c .args .len) (c .args .out .now)) (c .fork .last .out) (at-token (c .args .found .token) _ (take (c .args .found .next - c .args .found .start) (drop (c .args .found .start) (c .args .text .now))) l _ h (begins-if (c .args .found .token) (sym (c .begins .ensures) ∙ c .in-If .is))) (c .fork .ensures .read);
-    }
+  forth = c .fork .ensures .forth;
+  read = λ l h s. by-key IF ifAt if-is (c .fork .result) l (ahead (c .args .text .now) (c .args .found .next)) (c .args .text .now) (take (c .args .len) (c .args .out .now)) (c .fork .last .out) (at-token (c .args .found .token) _ (take (c .args .found .next - c .args .found .start) (drop (c .args .found .start) (c .args .text .now))) l _ h (begins-if (c .args .found .token) (sym (c .begins .ensures) ∙ c .in-If .is))) (c .fork .ensures .read);
+}
 
 pub statement-returns-in-While : need.statement-returns-in-While
 statement-returns-in-While ring c = record {
-      forth = c .turning .ensures .forth;
-      read = λ l h s. by-key WHILE whileAt while-is (c .turning .result) l (ahead (c .args .text .now) (c .args .found .next)) (c .args .text .now) (take (c .args .len) (c .args .out .now)) (c .turning .last .out) (at-token (c .args .found .token) _ (take (c .args .found .next - c .args .found .start) (drop (c .args .found .start) (c .args .text .now))) l _ h (begins-while (c .args .found .token) (sym (c .begins .ensures) ∙ c .in-While .is))) (c .turning .ensures .read);
-    }
+  forth = c .turning .ensures .forth;
+  read = λ l h s. by-key WHILE whileAt while-is (c .turning .result) l (ahead (c .args .text .now) (c .args .found .next)) (c .args .text .now) (take (c .args .len) (c .args .out .now)) (c .turning .last .out) (at-token (c .args .found .token) _ (take (c .args .found .next - c .args .found .start) (drop (c .args .found .start) (c .args .text .now))) l _ h (begins-while (c .args .found .token) (sym (c .begins .ensures) ∙ c .in-While .is))) (c .turning .ensures .read);
+}
 
 pub statement-returns-in-Guard : need.statement-returns-in-Guard
 statement-returns-in-Guard ring c = record {
-      forth = c .guarded .ensures .forth;
-      read = λ l h s. by-key GUARD guardAt guard-is (c .guarded .result) l (ahead (c .args .text .now) (c .args .found .next)) (c .args .text .now) (take (c .args .len) (c .args .out .now)) (c .guarded .last .out) (at-token (c .args .found .token) _ (take (c .args .found .next - c .args .found .start) (drop (c .args .found .start) (c .args .text .now))) l _ h (begins-guard (c .args .found .token) (sym (c .begins .ensures) ∙ c .in-Guard .is))) (c .guarded .ensures .read);
-    }
+  forth = c .guarded .ensures .forth;
+  read = λ l h s. by-key GUARD guardAt guard-is (c .guarded .result) l (ahead (c .args .text .now) (c .args .found .next)) (c .args .text .now) (take (c .args .len) (c .args .out .now)) (c .guarded .last .out) (at-token (c .args .found .token) _ (take (c .args .found .next - c .args .found .start) (drop (c .args .found .start) (c .args .text .now))) l _ h (begins-guard (c .args .found .token) (sym (c .begins .ensures) ∙ c .in-Guard .is))) (c .guarded .ensures .read);
+}
 
 pub statement-returns-in-Return : need.statement-returns-in-Return
 statement-returns-in-Return ring c = record {
-      forth = c .with-expr-in-Return .ensures .forth;
-      read = λ l h s. by-key RETURN (exprThen Return) return-is (c .with-expr-in-Return .result) l (ahead (c .args .text .now) (c .args .found .next)) (c .args .text .now) (take (c .args .len) (c .args .out .now)) (c .with-expr-in-Return .last .out) (at-token (c .args .found .token) _ (take (c .args .found .next - c .args .found .start) (drop (c .args .found .start) (c .args .text .now))) l _ h (begins-return (c .args .found .token) (sym (c .begins .ensures) ∙ c .in-Return .is))) (c .with-expr-in-Return .ensures .read Return return-draft return-size);
-    }
+  forth = c .with-expr-in-Return .ensures .forth;
+  read = λ l h s. by-key RETURN (exprThen Return) return-is (c .with-expr-in-Return .result) l (ahead (c .args .text .now) (c .args .found .next)) (c .args .text .now) (take (c .args .len) (c .args .out .now)) (c .with-expr-in-Return .last .out) (at-token (c .args .found .token) _ (take (c .args .found .next - c .args .found .start) (drop (c .args .found .start) (c .args .text .now))) l _ h (begins-return (c .args .found .token) (sym (c .begins .ensures) ∙ c .in-Return .is))) (c .with-expr-in-Return .ensures .read Return return-draft return-size);
+}
 
 pub statement-returns-in-Fail : need.statement-returns-in-Fail
 statement-returns-in-Fail ring c = record {
-      forth = failure-onwards (c .failure .result) _ (c .args .len) _ (c .args .out .now) (c .failure .last .out) (c .pre .within) (c .failure .ensures);
-      read = λ l h s. by-key FAIL failAt fail-is (c .failure .result) l (ahead (c .args .text .now) (c .args .found .next)) (c .args .text .now) (take (c .args .len) (c .args .out .now)) (c .failure .last .out) (at-token (c .args .found .token) _ (take (c .args .found .next - c .args .found .start) (drop (c .args .found .start) (c .args .text .now))) l _ h (begins-fail (c .args .found .token) (sym (c .begins .ensures) ∙ c .in-Fail .is))) (failure-read (c .failure .result) (c .args .text .now) (c .args .found .next) (c .args .len) (c .args .out .now) (c .failure .last .out) (c .pre .room) (c .failure .kept .out) (c .failure .ensures));
-    }
+  forth = failure-onwards (c .failure .result) _ (c .args .len) _ (c .args .out .now) (c .failure .last .out) (c .pre .within) (c .failure .ensures);
+  read = λ l h s. by-key FAIL failAt fail-is (c .failure .result) l (ahead (c .args .text .now) (c .args .found .next)) (c .args .text .now) (take (c .args .len) (c .args .out .now)) (c .failure .last .out) (at-token (c .args .found .token) _ (take (c .args .found .next - c .args .found .start) (drop (c .args .found .start) (c .args .text .now))) l _ h (begins-fail (c .args .found .token) (sym (c .begins .ensures) ∙ c .in-Fail .is))) (failure-read (c .failure .result) (c .args .text .now) (c .args .found .next) (c .args .len) (c .args .out .now) (c .failure .last .out) (c .pre .room) (c .failure .kept .out) (c .failure .ensures));
+}
 
 pub statement-returns-in-Variable : need.statement-returns-in-Variable
 statement-returns-in-Variable ring c = record {
-      forth = c .behind-variable .ensures .forth;
-      read = λ l h s. by-variable (c .in-Variable .v) (c .behind-variable .result) l (ahead (c .args .text .now) (c .args .found .next)) (c .args .text .now) (take (c .args .len) (c .args .out .now)) (c .behind-variable .last .out) (at-token (c .args .found .token) _ (take (c .args .found .next - c .args .found .start) (drop (c .args .found .start) (c .args .text .now))) l _ h (begins-variable (c .args .found .token) (c .in-Variable .v) (sym (c .begins .ensures) ∙ c .in-Variable .is))) (c .behind-variable .ensures .read);
-    }
+  forth = c .behind-variable .ensures .forth;
+  read = λ l h s. by-variable (c .in-Variable .v) (c .behind-variable .result) l (ahead (c .args .text .now) (c .args .found .next)) (c .args .text .now) (take (c .args .len) (c .args .out .now)) (c .behind-variable .last .out) (at-token (c .args .found .token) _ (take (c .args .found .next - c .args .found .start) (drop (c .args .found .start) (c .args .text .now))) l _ h (begins-variable (c .args .found .token) (c .in-Variable .v) (sym (c .begins .ensures) ∙ c .in-Variable .is))) (c .behind-variable .ensures .read);
+}
 
 pub statement-returns-in-Nothing : need.statement-returns-in-Nothing
 statement-returns-in-Nothing ring c = record { forth = tt; read = λ l h s. no-statement _ (c .args .found .token) (take (c .args .found .next - c .args .found .start) (drop (c .args .found .start) (c .args .text .now))) l _ h s (sym (c .begins .ensures) ∙ c .in-Nothing .is) }

@@ -22,4 +22,3 @@ abbrev pub μ-other : given.MeasureT-other
 
 abbrev pub μ-opened : given.MeasureT-opened
 μ-opened l = 8 * (length (l .text .now) - l .pos) + 3
-

@@ -54,6 +54,5 @@ returns ring c =
     record {
       forth = args-on (c .more-arguments .result) _ _ (c .args .at .pos) (c .args .at .len) _ _ (length (c .args .out .now)) (omega (arith, n .1, f .0)) (f .2) (c .chain .kept .out) (c .more-arguments .ensures .forth);
       read = args-read (c .more-arguments .result) argsAt argsAt (w .tree) _ _ (c .args .text .now) (c .args .out .now) (c .chain .last .out) (c .more-arguments .last .out) (c .args .at .len) (c .in-Continue-c .c .len) (c .args .count) (c .pre .room) (omega (arith, f .3, c .chain .kept .out)) (c .chain .kept .out) (c .more-arguments .kept .out) (w .words)
-        (λ es k y. args-took (w .tree) es (still-open (c .token-at-found .result .token) (take (c .token-at-found .result .next - c .token-at-found .result .start) (drop (c .token-at-found .result .start) (c .args .text .now))) (ahead (c .args .text .now) (c .args .at .pos)) (ahead (c .args .text .now) (c .token-at-found .result .next)) (c .token-at-found .ensures .ahead) (stop-end (c .args .text .now) (c .args .at .pos) (c .token-at-found .result) (c .token-at-found .ensures .forth)) (sym (c .closes .ensures) ∙ c .if-closes .left)) (n .0) (w .took) y) (λ at is y. args-bar-rest (length (c .more-arguments .last .out)) (length (take (c .args .at .len) (c .args .out .now))) at (c .args .count) (w .tree) (still-open (c .token-at-found .result .token) (take (c .token-at-found .result .next - c .token-at-found .result .start) (drop (c .token-at-found .result .start) (c .args .text .now))) (ahead (c .args .text .now) (c .args .at .pos)) (ahead (c .args .text .now) (c .token-at-found .result .next)) (c .token-at-found .ensures .ahead) (stop-end (c .args .text .now) (c .args .at .pos) (c .token-at-found .result) (c .token-at-found .ensures .forth)) (sym (c .closes .ensures) ∙ c .if-closes .left)) is (n .0) (w .took) y) (c .more-arguments .ensures .read);
+          (λ es k y. args-took (w .tree) es (still-open (c .token-at-found .result .token) (take (c .token-at-found .result .next - c .token-at-found .result .start) (drop (c .token-at-found .result .start) (c .args .text .now))) (ahead (c .args .text .now) (c .args .at .pos)) (ahead (c .args .text .now) (c .token-at-found .result .next)) (c .token-at-found .ensures .ahead) (stop-end (c .args .text .now) (c .args .at .pos) (c .token-at-found .result) (c .token-at-found .ensures .forth)) (sym (c .closes .ensures) ∙ c .if-closes .left)) (n .0) (w .took) y) (λ at is y. args-bar-rest (length (c .more-arguments .last .out)) (length (take (c .args .at .len) (c .args .out .now))) at (c .args .count) (w .tree) (still-open (c .token-at-found .result .token) (take (c .token-at-found .result .next - c .token-at-found .result .start) (drop (c .token-at-found .result .start) (c .args .text .now))) (ahead (c .args .text .now) (c .args .at .pos)) (ahead (c .args .text .now) (c .token-at-found .result .next)) (c .token-at-found .ensures .ahead) (stop-end (c .args .text .now) (c .args .at .pos) (c .token-at-found .result) (c .token-at-found .ensures .forth)) (sym (c .closes .ensures) ∙ c .if-closes .left)) is (n .0) (w .took) y) (c .more-arguments .ensures .read);
     }
-

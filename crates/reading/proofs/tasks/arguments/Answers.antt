@@ -45,6 +45,5 @@ returns c =
     record {
       forth = args-on (c .more-arguments .result) _ _ (c .args .pos) (c .args .len) _ _ (length (c .args .out .now)) (omega (arith, f .0)) (f .2) (c .chain .kept .out) (c .more-arguments .ensures .forth);
       read = args-read (c .more-arguments .result) argsAt listAt (w .tree) _ _ (c .args .text .now) (c .args .out .now) (c .chain .last .out) (c .more-arguments .last .out) (c .args .len) (c .in-Continue-c .c .len) 0 (c .pre .room) (omega (arith, f .3, c .chain .kept .out)) (c .chain .kept .out) (c .more-arguments .kept .out) (w .words)
-        (λ es k y. list-took (w .tree) es (still-open (c .token-at-found .result .token) (take (c .token-at-found .result .next - c .token-at-found .result .start) (drop (c .token-at-found .result .start) (c .args .text .now))) (ahead (c .args .text .now) (c .args .pos)) (ahead (c .args .text .now) (c .token-at-found .result .next)) (c .token-at-found .ensures .ahead) (stop-end (c .args .text .now) (c .args .pos) (c .token-at-found .result) (c .token-at-found .ensures .forth)) (sym (c .closes .ensures) ∙ c .if-closes .left)) (w .took) y) (λ at is y. list-bar-rest (length (c .more-arguments .last .out)) (length (take (c .args .len) (c .args .out .now))) at (w .tree) (still-open (c .token-at-found .result .token) (take (c .token-at-found .result .next - c .token-at-found .result .start) (drop (c .token-at-found .result .start) (c .args .text .now))) (ahead (c .args .text .now) (c .args .pos)) (ahead (c .args .text .now) (c .token-at-found .result .next)) (c .token-at-found .ensures .ahead) (stop-end (c .args .text .now) (c .args .pos) (c .token-at-found .result) (c .token-at-found .ensures .forth)) (sym (c .closes .ensures) ∙ c .if-closes .left)) is (w .took) y) (c .more-arguments .ensures .read);
+          (λ es k y. list-took (w .tree) es (still-open (c .token-at-found .result .token) (take (c .token-at-found .result .next - c .token-at-found .result .start) (drop (c .token-at-found .result .start) (c .args .text .now))) (ahead (c .args .text .now) (c .args .pos)) (ahead (c .args .text .now) (c .token-at-found .result .next)) (c .token-at-found .ensures .ahead) (stop-end (c .args .text .now) (c .args .pos) (c .token-at-found .result) (c .token-at-found .ensures .forth)) (sym (c .closes .ensures) ∙ c .if-closes .left)) (w .took) y) (λ at is y. list-bar-rest (length (c .more-arguments .last .out)) (length (take (c .args .len) (c .args .out .now))) at (w .tree) (still-open (c .token-at-found .result .token) (take (c .token-at-found .result .next - c .token-at-found .result .start) (drop (c .token-at-found .result .start) (c .args .text .now))) (ahead (c .args .text .now) (c .args .pos)) (ahead (c .args .text .now) (c .token-at-found .result .next)) (c .token-at-found .ensures .ahead) (stop-end (c .args .text .now) (c .args .pos) (c .token-at-found .result) (c .token-at-found .ensures .forth)) (sym (c .closes .ensures) ∙ c .if-closes .left)) is (w .took) y) (c .more-arguments .ensures .read);
     }
-

@@ -35,4 +35,3 @@ returns-in-Ok-key c =
 
 pub returns : need.returns
 returns c = record { forth = tt; read = no-assignment (c .args .v) _ (c .in-rest .ensures tt) (c .in-rest-key .ensures tt) }
-

@@ -48,8 +48,7 @@ returns c =
         item = Hear (c .args .v) (h .other) (h .name) (w .tree);
         took = hear-took (c .args .v) h (w .tree) (fr .1) (fr .0) (w .took);
         words = subst (λ (y : List ℕ). take (c .in-Continue-c .c .len) y ≡ take (c .args .len) (c .args .out .now) ++ draftStmt (Hear (c .args .v) (h .other) (h .name) (w .tree)))
-          (sym (c .head .ensures ∙ ap (λ (y : List ℕ). put4 y (c .args .len) 4 (c .args .v) (c .units .result) (c .in-Continue-front .front .other)) (c .write-name .ensures)))
-          (hear-words (c .args .out .now) (c .chain .last .out) (c .args .len) (c .in-Continue-c .c .len) (c .args .v) (h .other) (c .units .result) (h .name) (w .tree) (w .words) (f .2) (f .3) (c .chain .kept .out) (c .units .ensures));
+            (sym (c .head .ensures ∙ ap (λ (y : List ℕ). put4 y (c .args .len) 4 (c .args .v) (c .units .result) (c .in-Continue-front .front .other)) (c .write-name .ensures)))
+            (hear-words (c .args .out .now) (c .chain .last .out) (c .args .len) (c .in-Continue-c .c .len) (c .args .v) (h .other) (c .units .result) (h .name) (w .tree) (w .words) (f .2) (f .3) (c .chain .kept .out) (c .units .ensures));
       };
     }
-

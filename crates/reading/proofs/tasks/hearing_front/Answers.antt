@@ -58,4 +58,3 @@ returns c =
     let e = c .in-Continue-name .ensures tt in
     let f = c .in-Continue-next .ensures tt .1 in
     (heard-took (c .in-Continue-other .other .value) (take (c .in-Continue-name .name .next - c .in-Continue-name .name .start) (drop (c .in-Continue-name .name .start) (c .args .text .now))) (c .in-Continue-other .ensures tt .0) (c .in-Continue-hears .ensures tt .0) (c .in-Continue-first .ensures tt .0) (c .in-Continue-name .ensures tt .0) (c .in-Continue-next .ensures tt .0), c .if-other-v .left, (omega (arith, e .1), f .1), e .2, e .1 .1)
-

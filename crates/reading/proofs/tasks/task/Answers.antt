@@ -55,8 +55,7 @@ returns c =
         item = Do (c .args .v) (c .in-Continue-front .front .value) (r .items) (bk .tries) (bk .pause);
         took = task-took (c .args .v) (c .in-Continue-front .front .value) (r .items) (bk .tries) (bk .pause) (fr .1) few (b .1) (fr .0) (r .took) (b .0);
         words = subst (λ (y : List ℕ). take (c .in-Continue-args .args .len) y ≡ take (c .args .len) (c .args .out .now) ++ draftStmt (Do (c .args .v) (c .in-Continue-front .front .value) (r .items) (bk .tries) (bk .pause)))
-          (sym (c .head-4 .ensures ∙ ap (λ (y : List ℕ). put4 y (c .args .len) 2 (c .args .v) (c .units .result) 0) (c .head-3 .ensures ∙ ap (λ (y : List ℕ). put4 y ((c .args .len) + 4) (c .in-Continue-front .front .value) (bk .tries) (bk .pause) (c .in-Continue-args .args .count)) (c .head-2 .ensures ∙ ap (λ (y : List ℕ). put4 y ((c .args .len) + 8) 0 0 0 0) (c .head .ensures)))))
-          (task-words (c .args .out .now) (c .arguments .last .out) (c .args .len) (c .in-Continue-args .args .len) (c .args .v) (c .in-Continue-front .front .value) (bk .tries) (bk .pause) (c .units .result) (r .items) (r .words) (f .2) (f .3) (c .arguments .kept .out) (c .units .ensures) (c .in-Continue-args .args .count) (r .counted ∙ omega arith));
+            (sym (c .head-4 .ensures ∙ ap (λ (y : List ℕ). put4 y (c .args .len) 2 (c .args .v) (c .units .result) 0) (c .head-3 .ensures ∙ ap (λ (y : List ℕ). put4 y ((c .args .len) + 4) (c .in-Continue-front .front .value) (bk .tries) (bk .pause) (c .in-Continue-args .args .count)) (c .head-2 .ensures ∙ ap (λ (y : List ℕ). put4 y ((c .args .len) + 8) 0 0 0 0) (c .head .ensures)))))
+            (task-words (c .args .out .now) (c .arguments .last .out) (c .args .len) (c .in-Continue-args .args .len) (c .args .v) (c .in-Continue-front .front .value) (bk .tries) (bk .pause) (c .units .result) (r .items) (r .words) (f .2) (f .3) (c .arguments .kept .out) (c .units .ensures) (c .in-Continue-args .args .count) (r .counted ∙ omega arith));
       };
     }
-

@@ -50,4 +50,3 @@ returns-then-pause-gt-LONGEST-PAUSE c = back-bar-long (c .in-Continue-tries .tri
 
 pub returns : need.returns
 returns c = (back-took (c .in-Continue-tries .tries .value) (c .in-Continue-pause .pause .value) (c .in-Continue-first .ensures tt .0) (c .in-Continue-tries .ensures tt .0) (c .in-Continue-then .ensures tt .0) (c .in-Continue-pause .ensures tt .0), times-good (c .in-Continue-tries .tries .value) (c .in-Continue-pause .pause .value) (c .if-tries-eq0 .left) (c .if-tries-gt-MOST-TRIES .left) (c .if-pause-gt-LONGEST-PAUSE .left), (omega (arith, c .in-Continue-first .ensures tt .1, c .in-Continue-tries .ensures tt .1, c .in-Continue-then .ensures tt .1, c .in-Continue-pause .ensures tt .1), c .in-Continue-pause .ensures tt .1 .1))
-

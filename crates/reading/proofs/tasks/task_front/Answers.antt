@@ -42,4 +42,3 @@ returns-in-Break-next c =
 
 pub returns : need.returns
 returns c = (front-took (c .in-Continue-kind .kind .value) (c .in-Continue-first .ensures tt .0) (c .in-Continue-kind .ensures tt .0) (c .in-Continue-next .ensures tt .0), omega (arith, c .if-kind-gt-MOST-KIND .left), (omega (arith, c .in-Continue-first .ensures tt .1, c .in-Continue-kind .ensures tt .1, c .in-Continue-next .ensures tt .1), c .in-Continue-next .ensures tt .1 .1))
-

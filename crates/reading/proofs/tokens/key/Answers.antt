@@ -20,4 +20,3 @@ returns-else-key-code c = key-no (c .args .want) (c .token-at-found .result .tok
 
 pub returns-in-rest : need.returns-in-rest
 returns-in-rest c = key-no (c .args .want) (c .token-at-found .result .token) _ _ _ (c .token-at-found .ensures .ahead) (stop-end (c .args .text .now) (c .args .pos) (c .token-at-found .result) (c .token-at-found .ensures .forth)) (λ k i j. c .in-rest .not-Key k i)
-

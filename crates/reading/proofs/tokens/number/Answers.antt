@@ -16,4 +16,3 @@ returns-in-Number c =
 
 pub returns : need.returns
 returns c = number-no (c .token-at-found .result .token) _ _ _ (c .token-at-found .ensures .ahead) (stop-end (c .args .text .now) (c .args .pos) (c .token-at-found .result) (c .token-at-found .ensures .forth)) (c .in-rest .not-Number)
-
