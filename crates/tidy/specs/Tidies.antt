@@ -1,7 +1,11 @@
 -- What is printed of a text. Assumes nothing.
 use mathlib.Core.Path.{_≡_}
-use mathlib.Core.List.{List}
-use Prim.Native.Nat.{ℕ}
+use mathlib.Core.Bool.{Bool, cond}
+use mathlib.Core.List.{List, [], _∷_}
+use Prim.Native.Nat.{ℕ, _+_, _-_, _≤_}
+use lib.Dec.{eqb}
+use lib.ListN.{length, take}
+use Rattle.tidy.specs.declared.Place.{Place}
 use Rattle.plans.specs.Plan.{Block}
 use Rattle.text.specs.Printer.{textOf}
 use Rattle.text.specs.Text.{IsText}
@@ -25,3 +29,15 @@ abbrev pub reasonOf : ReadError → TidyError
 reasonOf (of.NotPlan e) = NotPlan e
 reasonOf of.NoRoom = Memory
 reasonOf of.ShortDraft = Memory
+
+-- how many line feeds
+abbrev pub feeds : List ℕ → ℕ
+feeds [] = 0
+feeds (b ∷ bs) = cond (eqb b 10) 1 0 + feeds bs
+
+-- a byte's line and column, from 1, and where the line begins and ends
+pub record PlaceAt (text : List ℕ) (at : ℕ) (r : Place) : Type 0 where
+  pub begins : r .begin ≤ at
+  pub ends : r .end ≤ length text
+  pub line : r .line ≡ 1 + feeds (take at text)
+  pub column : r .column ≡ at - r .begin + 1

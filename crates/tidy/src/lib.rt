@@ -1,15 +1,15 @@
 // Tidying: a plan's text, read and printed well laid out; or where it is no plan.
-ghost use Prim.Native.Nat.{ℕ, _≤_};
+ghost use Prim.Native.Nat.{ℕ, _≤_, min};
 ghost use mathlib.Core.Path.{_≡_};
 ghost use mathlib.Core.Bool.{true};
-ghost use lib.ListN.{take};
+ghost use lib.ListN.{length, take};
 ghost use Rattle.std.specs.declared.result.Result.the-variants.{Ok, Err};
 ghost use Rattle.std.specs.Of.Vec.{vec-len, vec-items};
 ghost use Rattle.std.specs.Options.{Cases as BySome};
 ghost use Rattle.plans.specs.Plan.{Block, blockOk};
 ghost use Rattle.plans.specs.Flat.{laid};
 ghost use Rattle.text.specs.Printer.{textOf};
-ghost use Rattle.tidy.specs.Tidies.{Tidied, Why, reasonOf};
+ghost use Rattle.tidy.specs.Tidies.{Tidied, Why, reasonOf, PlaceAt};
 use plans::kinds::MOST_WORDS;
 use plans::sheet::Slate;
 use plans::sheet::SlateSheet;
@@ -69,4 +69,33 @@ fn printed(heap: Global, slate: &Slate) -> Option<Vec<u8>>
         Ok(()) => Some(out),
         Err(_) => None,
     }
+}
+
+// Where a byte of a text stands: its line and column, from 1, and where the line begins and ends.
+#[derive(Clone, Copy)]
+pub struct Place {
+    pub line: usize,
+    pub column: usize,
+    pub begin: usize,
+    pub end: usize,
+}
+
+// The place of a byte, or of the end for one behind it.
+pub fn place_of(text: &[u8], at: usize) -> Place
+    ensures { λ r. ⌜ PlaceAt (now (text .entry)) (min at (length (now (text .entry)))) r ⌝ }
+{
+    let here = at.min(text.len());
+    let mut line = 1;
+    let mut begin = 0;
+    for i in 0..here {
+        if text[i] == b'\n' {
+            line += 1;
+            begin = i + 1;
+        }
+    }
+    let mut end = here;
+    while end < text.len() && text[end] != b'\n' {
+        end += 1;
+    }
+    Place { line, column: here - begin + 1, begin, end }
 }
