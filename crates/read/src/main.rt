@@ -15,19 +15,21 @@ use tidy::place_of;
 use tidy::tidy;
 use wording::wording;
 
-// Reads to the end, or to one byte more than a plan may have: all that is longer is none.
+// Reads some bytes more; false at the end.
+fn read_more<R: Read>(input: &mut R, text: &mut Vec<u8>) -> io::Result<bool> {
+    let mut buffer = [0u8; 4096];
+    let count = input.read(&mut buffer)?.min(4096);
+    text.extend_from_slice(&buffer[0..count])?;
+    Ok(count > 0)
+}
+
+// Reads to the end, or to more bytes than a plan may have: all that is longer is none.
 fn read_input<R: Read>(heap: Global, input: &mut R) -> io::Result<Vec<u8>> {
     let mut text = Vec::new(heap);
-    let mut buffer = [0u8; 4096];
     for _ in 0..LONGEST_TEXT + 2 {
-        if text.len() > LONGEST_TEXT {
+        if text.len() > LONGEST_TEXT || !read_more(input, &mut text)? {
             break;
         }
-        let count = input.read(&mut buffer)?;
-        if count == 0 {
-            break;
-        }
-        text.extend_from_slice(&buffer[0..count])?;
     }
     Ok(text)
 }
