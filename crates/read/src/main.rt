@@ -54,32 +54,33 @@ fn excerpt(heap: Global, text: &[u8], place: Place) -> Result<Vec<u8>, AllocErro
     Ok(out)
 }
 
-fn complain(rt: &LibcRuntime, name: &str, text: &[u8], why: NoPlan) -> Result<(), AnyError> {
+// Says where a text is no plan.
+fn complain(rt: &LibcRuntime, name: &str, text: &[u8], why: NoPlan) -> io::Result<()> {
     let place = place_of(text, why.at);
     let line = place.line;
     let column = place.column;
     let what = wording(why.expected);
     eprintln!(rt, "{name}:{line}:{column}: expected {what}")?;
     let shown = excerpt(rt.alloc(), text, place)?;
-    rt.stderr().write_all(shown.as_slice())?;
-    Err("no plan".into())
+    rt.stderr().write_all(shown.as_slice())
 }
 
-fn show(rt: &LibcRuntime, name: &str, text: &[u8]) -> Result<(), AnyError> {
+// Prints the plan, or says where it is none; false then.
+fn show(rt: &LibcRuntime, name: &str, text: &[u8]) -> Result<bool, AnyError> {
     match tidy(rt.alloc(), text) {
         Ok(out) => {
             rt.stdout().write_all(out.as_slice())?;
-            Ok(())
+            Ok(true)
         }
-        Err(TidyError::NotPlan(why)) => complain(rt, name, text, why),
-        Err(TidyError::Memory) => {
-            eprintln!(rt, "{name}: out of memory")?;
-            Err("out of memory".into())
+        Err(TidyError::NotPlan(why)) => {
+            complain(rt, name, text, why)?;
+            Ok(false)
         }
+        Err(TidyError::Memory) => Err("out of memory".into()),
     }
 }
 
-fn run(rt: &LibcRuntime) -> Result<(), AnyError> {
+fn run(rt: &LibcRuntime) -> Result<bool, AnyError> {
     let heap = rt.alloc();
     let mut args = env::args(rt)?;
     let _program = args.next();
@@ -96,7 +97,11 @@ fn run(rt: &LibcRuntime) -> Result<(), AnyError> {
     }
 }
 
-// What is wrong is on standard error already.
+// Ends with status 1 where there was no plan to print.
 fn main(rt: LibcRuntime) -> Result<(), AnyError> {
-    run(&rt)
+    match run(&rt) {
+        Ok(true) => Ok(()),
+        Ok(false) => Err("no plan".into()),
+        Err(e) => rt.report(Err(e)),
+    }
 }
