@@ -7,9 +7,9 @@ use wire::answer_line;
 
 fn main(rt: LibcRuntime) -> io::Result<()> {
     let heap = rt.alloc();
-    for line in BufReader::new(rt.stdin()).lines(heap) {
-        let text = line?;
-        let Refusal { tag, number } = answer_line(heap, text.as_bytes())?;
+    for line in BufReader::new(rt.stdin()).split(heap, b'\n') {
+        let bytes = line?;
+        let Refusal { tag, number } = answer_line(heap, bytes.as_slice())?;
         println!(rt, "out 00000006{tag:08x}00{number:02x}")?;
     }
     Ok(())
