@@ -2,9 +2,9 @@
 use mathlib.Core.Path.{_≡_}
 use mathlib.Core.Bool.{Bool, cond}
 use mathlib.Core.List.{List, [], _∷_}
-use Prim.Native.Nat.{ℕ, _+_, _-_, _≤_}
+use Prim.Native.Nat.{ℕ, suc, _+_, _-_, _≤_, _<_}
 use lib.Dec.{eqb}
-use lib.ListN.{length, take}
+use lib.ListN.{length, take, getD}
 use Rattle.tidy.specs.declared.Place.{Place}
 use Rattle.plans.specs.Plan.{Block}
 use Rattle.text.specs.Printer.{textOf}
@@ -35,9 +35,13 @@ abbrev pub feeds : List ℕ → ℕ
 feeds [] = 0
 feeds (b ∷ bs) = cond (eqb b 10) 1 0 + feeds bs
 
--- a byte's line and column, from 1, and where the line begins and ends
+-- a byte's line and column, from 1; the line begins at the text's begin or behind a line feed, ends at the next or at the text's end
 pub record PlaceAt (text : List ℕ) (at : ℕ) (r : Place) : Type 0 where
-  pub begins : r .begin ≤ at
-  pub ends : r .end ≤ length text
   pub line : r .line ≡ 1 + feeds (take at text)
   pub column : r .column ≡ at - r .begin + 1
+  pub begins : r .begin ≤ at
+  pub behind : (k : ℕ) → suc k ≡ r .begin → getD text k 0 ≡ 10
+  pub from : (k : ℕ) → r .begin ≤ k → k < at → getD text k 0 ≡ 10 → ⊥
+  pub ends : (at ≤ r .end) × (r .end ≤ length text)
+  pub before : r .end < length text → getD text (r .end) 0 ≡ 10
+  pub to : (k : ℕ) → at ≤ k → k < r .end → getD text k 0 ≡ 10 → ⊥
