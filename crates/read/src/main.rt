@@ -36,7 +36,12 @@ fn read_input<R: Read>(heap: Global, input: &mut R) -> io::Result<Vec<u8>> {
 
 // The line of a text up to 20 bytes behind a place, and a caret under the place.
 fn excerpt(heap: Global, text: &[u8], place: Place) -> Result<Vec<u8>, AllocError> {
-    let Place { line: _, column, begin, end } = place;
+    let Place {
+        line: _,
+        column,
+        begin,
+        end,
+    } = place;
     let mut out = Vec::new(heap);
     let here = begin.saturating_add(column.saturating_sub(1));
     let first = begin.max(here.saturating_sub(60));
@@ -59,7 +64,7 @@ fn complain(rt: &LibcRuntime, name: &str, text: &[u8], why: NoPlan) -> io::Resul
     let place = place_of(text, why.at);
     let line = place.line;
     let column = place.column;
-    let what = wording(why.expected);
+    let what = wording(text, why);
     eprintln!(rt, "{name}:{line}:{column}: expected {what}")?;
     let shown = excerpt(rt.alloc(), text, place)?;
     rt.stderr().write_all(shown.as_slice())

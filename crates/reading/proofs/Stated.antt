@@ -659,18 +659,18 @@ unfolding draftOf
 done-draft = refl
 
 -- the end of a part
-pub end-read : (text : List ℕ) (at : Cursor) (xs ys : List ℕ) (r : Result Cursor NoPlan) → at .pos ≤ length text → at .len ≤ length xs → length ys ≡ length xs → Took partAt done (ahead text (at .pos)) (ahead text (at .pos)) → Leaf r (at .pos) (at .len) 12 0 xs ys →
+pub end-read : (text : List ℕ) (at : Cursor) (next : ℕ) (xs ys : List ℕ) (r : Result Cursor NoPlan) → at .pos ≤ next → next ≤ length text → ahead text next ≡ ahead text (at .pos) → at .len ≤ length xs → length ys ≡ length xs → Took partAt done (ahead text (at .pos)) (ahead text (at .pos)) → Leaf r next (at .len) 12 0 xs ys →
     record { forth : Onwards r (at .pos) (at .len) (length text) (length xs); read : ReadPart r partAt (ahead text (at .pos)) text (take (at .len) xs) ys }
-end-read text at xs ys (Ok c) within fits same t h =
+end-read text at next xs ys (Ok c) on within there fits same t h =
     record {
       forth = (omega (arith, h .0), omega (arith, h .0), omega (arith, h .1), omega (arith, h .1, h .2));
       read = record {
         item = done;
-        took = subst (λ (z : ℕ). Took partAt done (ahead text (at .pos)) (ahead text z)) (sym (h .0)) t;
+        took = subst (λ (z : ℕ). Took partAt done (ahead text (at .pos)) (ahead text z)) (sym (h .0)) (subst (λ (x : Lexed). Took partAt done (ahead text (at .pos)) x) (sym there) t);
         words = subst (λ (z : ℕ). take z ys ≡ take (at .len) xs ++ draftOf done) (sym (h .1)) (h .3 ∙ ap (λ (q : List ℕ). take (at .len) xs ++ q) (sym done-draft));
       };
     }
-end-read text at xs ys (Err e) within fits same t h = record { forth = tt; read = no-room-part partAt _ _ _ (let p = length-take-le (at .len) xs fits in omega arith) }
+end-read text at next xs ys (Err e) on within there fits same t h = record { forth = tt; read = no-room-part partAt _ _ _ (let p = length-take-le (at .len) xs fits in omega arith) }
 
 -- a statement, and the rest of the part
 pub part-read : (r : Result Cursor NoPlan) (text : List ℕ) (at c : Cursor) (xs ys zs : List ℕ) (s : Stmt) → ((ts : List token.Token) → ahead text (at .pos) ≡ tokens ts → ended ts ≡ false) → at .len ≤ length xs → at .pos ≤ c .pos → at .len ≤ c .len → c .len ≤ length xs → length ys ≡ length xs → length zs ≡ length ys →

@@ -172,7 +172,10 @@ fn more(
 {
     let found = token_at(text, at.pos);
     let Some(operator) = joins(level, found.token) else {
-        return Ok(at);
+        return Ok(Cursor {
+            pos: found.start,
+            len: at.len,
+        });
     };
     let right = Cursor {
         pos: found.next,

@@ -231,7 +231,7 @@ pub fn part(text: &[u8], at: Cursor, out: &mut [u64]) -> Result<Cursor, NoPlan>
         let end = Lexeme {
             token: found.token,
             start: found.start,
-            next: at.pos,
+            next: found.start,
         };
         return leaf(end, at.len, kinds::PART, 0, out);
     }

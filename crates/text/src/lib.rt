@@ -301,6 +301,7 @@ fn word_of(w: &[u8]) -> Token
 // The first token at this place or behind it.
 pub fn token_at(text: &[u8], from: usize) -> Lexeme
     ensures ahead { λ r. ⌜ ahead (now (text .entry)) from ≡ both (meant (now (text .entry)) r) (ahead (now (text .entry)) (r .next)) ⌝ }
+    ensures start { λ r. ⌜ ahead (now (text .entry)) (r .start) ≡ ahead (now (text .entry)) from ⌝ }
     ensures forth { λ r. ⌜ Forth from r (length (now (text .entry))) ⌝ }
 {
     if text.len() <= from {

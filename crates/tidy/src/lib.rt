@@ -97,5 +97,10 @@ pub fn place_of(text: &[u8], at: usize) -> Place
     while end < text.len() && text[end] != b'\n' {
         end += 1;
     }
-    Place { line, column: here - begin + 1, begin, end }
+    Place {
+        line,
+        column: here - begin + 1,
+        begin,
+        end,
+    }
 }

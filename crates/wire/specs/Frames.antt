@@ -2,9 +2,12 @@
 use mathlib.Core.Path.{_≡_}
 use mathlib.Core.Bool.{Bool, true, false, cond, _&&_}
 use mathlib.Core.List.{List, [], _∷_}
-use Prim.Native.Nat.{ℕ, _+_, _*_}
+use Prim.Native.Nat.{ℕ, _+_, _*_, _-_}
 use lib.Dec.{eqb, leb}
-use lib.ListN.{length, getD}
+use lib.ListN.{length, getD, take, drop}
+use Rattle.std.specs.declared.option.Option.{Option}
+use Rattle.std.specs.declared.option.Option.the-variants.{Some, None}
+use Rattle.wire.specs.declared.Refusal.{Refusal}
 
 -- four bytes as a number, the high byte first
 abbrev pub fourAt : List ℕ → ℕ → ℕ
@@ -21,3 +24,9 @@ isCall f = leb 9 (length f) && eqb (fourAt f 0 + 4) (length f) && leb 1 (getD f 
 -- 12: not built yet, for each kind of call; 10: no time was told, for all else
 abbrev pub refusalOf : List ℕ → ℕ
 refusalOf f = cond (isCall f) 12 10
+
+-- texts in hexadecimal ---------------------------------------------------------
+
+-- a digit's value, in either case
+abbrev pub digitOf : ℕ → Option ℕ
+digitOf b = cond (leb 48 b && leb b 57) (Some (b - 48)) (cond (leb 97 b && leb b 102) (Some (b - 97 + 10)) (cond (leb 65 b && leb b 70) (Some (b - 65 + 10)) None))

@@ -1,6 +1,6 @@
 // Calls and answers as framed bytes. No kind of call is built yet: each is turned away.
 ghost use mathlib.Core.Path.{_≡_};
-ghost use Rattle.wire.specs.Frames.{fourAt, tagOf, isCall, refusalOf};
+ghost use Rattle.wire.specs.Frames.{fourAt, tagOf, isCall, refusalOf, digitOf};
 ghost use Prim.Native.Nat.{_+_, _<_};
 ghost use lib.ListN.{length};
 use std::alloc::AllocError;
@@ -47,7 +47,9 @@ pub fn answer(frame: &[u8]) -> Refusal
 }
 
 // The value of a hexadecimal digit, in either case.
-pub fn digit(b: u8) -> Option<u8> {
+pub fn digit(b: u8) -> Option<u8>
+    ensures { λ r. ⌜ r ≡ digitOf b ⌝ }
+{
     match b {
         b'0'..=b'9' => Some(b - b'0'),
         b'a'..=b'f' => Some(b - b'a' + 10),

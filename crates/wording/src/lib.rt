@@ -1,14 +1,45 @@
 // What was expected at a place of a text, in words.
 use reading::error::Expected;
+use reading::error::NoPlan;
 use text::Key;
 
-pub fn wording(expected: Expected) -> &'static str {
+// Why a text is no plan. A number or a variable that is past its limit is no token, so that the text has to be looked at again.
+pub fn wording(text: &[u8], why: NoPlan) -> &'static str {
+    match why.expected {
+        Expected::Expression => operand(text, why.at, "an expression"),
+        Expected::Number => operand(text, why.at, "a number"),
+        expected => other_wording(expected),
+    }
+}
+
+// What was expected in place of an operand.
+fn operand(text: &[u8], at: usize, otherwise: &'static str) -> &'static str {
+    if is_number(text, at) {
+        return "a number below 18446744073709551616";
+    }
+    if at < text.len() && text[at] == b'v' && is_number(text, at + 1) {
+        return "a variable v0 to v63";
+    }
+    otherwise
+}
+
+// Does a run of letters and digits begin here, or go on, with digits alone.
+fn is_number(text: &[u8], at: usize) -> bool {
+    for i in at..text.len() {
+        if !text[i].is_ascii_digit() {
+            return i > at && !text[i].is_ascii_alphabetic();
+        }
+    }
+    at < text.len()
+}
+
+fn other_wording(expected: Expected) -> &'static str {
     match expected {
         Expected::Statement => "a statement",
         Expected::Expression => "an expression",
         Expected::Number => "a number",
-        Expected::Variable => "a variable",
-        Expected::Name => "a name",
+        Expected::Variable => "a variable v0 to v63",
+        Expected::Name => "a name of 1 to 64 letters a to z",
         Expected::Same => "'='",
         Expected::Word(key) => key_wording(key),
         Expected::Assignment => "'=' or ','",
@@ -44,6 +75,7 @@ fn key_wording(key: Key) -> &'static str {
         Key::Close => "')'",
         Key::Begin => "'{'",
         Key::End => "'}'",
-        Key::Comma => "','",
+        // the arguments of a task
+        Key::Comma => "',' or ')'",
     }
 }

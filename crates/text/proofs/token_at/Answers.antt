@@ -8,12 +8,13 @@ use Rattle.text.proofs.token_at.Needs as need
 
 pub returns-then-text-from : need.returns-then-text-from
 returns-then-text-from c =
-    record { ahead = sym (both-nil _); forth = record { after = omega arith; order = omega arith; within = λ h. h; moves = λ h. absurd (never-stops (sym h)); ends = λ h. c .if-text-from .taken; small = tt } }
+    record { ahead = sym (both-nil _); start = refl; forth = record { after = omega arith; order = omega arith; within = λ h. h; moves = λ h. absurd (never-stops (sym h)); ends = λ h. c .if-text-from .taken; small = tt } }
 
 pub returns-then-text-start : need.returns-then-text-start
 returns-then-text-start c =
     record {
       ahead = sym (c .past-blanks-start .ensures .same) ∙ sym (both-nil _);
+      start = c .past-blanks-start .ensures .same;
       forth = record { after = c .past-blanks-start .ensures .forth; order = omega arith; within = λ h. c .past-blanks-start .ensures .within; moves = λ h. absurd (never-stops (sym h)); ends = λ h. c .if-text-start .taken; small = tt };
     }
 
@@ -22,6 +23,7 @@ returns-then-not-word-byte c =
     record {
       ahead = sign-found (c .args .text .now) (c .args .from) (c .past-blanks-start .result) _ (c .if-text-start .left) (c .past-blanks-start .ensures .same) (sym (c .if-not-word-byte .ensures tt))
           (c .past-blanks-start .ensures .past (c .if-text-start .left)) (c .sign-of .ensures .means _);
+      start = c .past-blanks-start .ensures .same;
       forth = record {
         after = c .past-blanks-start .ensures .forth;
         order = omega arith;
@@ -37,6 +39,7 @@ returns c =
     record {
       ahead = word-found (c .args .text .now) (c .args .from) (c .past-blanks-start .result) (c .past-word-next .result) _ (c .past-word-next .ensures .forth) (c .past-word-next .ensures .within) (c .past-blanks-start .ensures .same)
           (c .past-word-next .ensures .same) (c .word-of .ensures .means);
+      start = c .past-blanks-start .ensures .same;
       forth = record {
         after = c .past-blanks-start .ensures .forth;
         order = omega arith;

@@ -14,7 +14,7 @@ use Rattle.text.specs.declared.Token.{Token}
 use Rattle.reading.specs.declared.exprs.Level.{Level}
 use Rattle.reading.specs.declared.exprs.Level.the-variants.{Unary}
 use Rattle.reading.specs.Took.{Took, Bars}
-use Rattle.reading.specs.Levels.{exprAt, NoRoom, kindOf, build}
+use Rattle.reading.specs.Levels.{exprAt, moreAt, NoRoom, kindOf, build}
 use Rattle.reading.proofs.Taking.{stop-end, onward}
 use Rattle.reading.proofs.Leveled.{more-none, joined, more-bar-right, more-bar-here, build-size, number-took, variable-took, not-took, not-bar, not-bar-here, bracket-took, bracket-bar-inside, bracket-bar-close, bracket-bar-deep, nothing-bar, words-long, lit-code, var-code, not-words, pair-words, chain-bar-first, suc-pred, further-on, chain-read, none-of, op-ahead, more-read, units-are, not-size, opens-n, opens-v, leaf-read}
 use Rattle.reading.proofs.exprs.+bracket+chain+more+negation+unary.Needs as need
@@ -62,8 +62,8 @@ pub more-returns-in-rest : need.more-returns-in-rest
 more-returns-in-rest ring c =
     let f = c .token-at-found .ensures .forth in
     record {
-      forth = (omega arith, c .pre .within, omega arith, c .pre .room);
-      read = λ pre e h. record { tree = e; took = more-none (c .args .level) (c .args .deep) e (c .token-at-found .result .token) _ _ _ (c .token-at-found .ensures .ahead) (stop-end (c .args .text .now) (c .args .at .pos) (c .token-at-found .result) f) (sym (c .joins .ensures) ∙ none-of (c .joins .result) (c .in-rest .not-Some)); words = h };
+      forth = (omega (arith, f .after), omega (arith, f .order, f .within (c .pre .within)), omega arith, c .pre .room);
+      read = λ pre e h. record { tree = e; took = subst (λ (x : Lexed). Took (moreAt (c .args .level) (c .args .deep) e) e (ahead (c .args .text .now) (c .args .at .pos)) x) (sym (c .token-at-found .ensures .start)) (more-none (c .args .level) (c .args .deep) e (c .token-at-found .result .token) _ _ _ (c .token-at-found .ensures .ahead) (stop-end (c .args .text .now) (c .args .at .pos) (c .token-at-found .result) f) (sym (c .joins .ensures) ∙ none-of (c .joins .result) (c .in-rest .not-Some))); words = h };
     }
 
 pub more-returns-in-Break-c : need.more-returns-in-Break-c

@@ -229,7 +229,9 @@ pub statement-returns-in-Nothing : need.statement-returns-in-Nothing
 statement-returns-in-Nothing ring c = record { forth = tt; read = λ l h s. no-statement _ (c .args .found .token) (take (c .args .found .next - c .args .found .start) (drop (c .args .found .start) (c .args .text .now))) l _ h s (sym (c .begins .ensures) ∙ c .in-Nothing .is) }
 
 pub part-returns-then-ends : need.part-returns-then-ends
-part-returns-then-ends ring c = end-read (c .args .text .now) (c .args .at) (c .args .out .now) (c .leaf .last .out) (c .leaf .result) (c .pre .within) (c .pre .room) (c .leaf .kept .out) (part-end (c .token-at-found .result .token) _ _ _ (c .token-at-found .ensures .ahead) (stop-end (c .args .text .now) (c .args .at .pos) (c .token-at-found .result) (c .token-at-found .ensures .forth)) (sym (c .ends .ensures) ∙ c .if-ends .taken)) (c .leaf .ensures)
+part-returns-then-ends ring c =
+    let f = c .token-at-found .ensures .forth in
+    end-read (c .args .text .now) (c .args .at) (c .token-at-found .result .start) (c .args .out .now) (c .leaf .last .out) (c .leaf .result) (f .after) (omega (arith, f .order, f .within (c .pre .within))) (c .token-at-found .ensures .start) (c .pre .room) (c .leaf .kept .out) (part-end (c .token-at-found .result .token) _ _ _ (c .token-at-found .ensures .ahead) (stop-end (c .args .text .now) (c .args .at .pos) (c .token-at-found .result) (c .token-at-found .ensures .forth)) (sym (c .ends .ensures) ∙ c .if-ends .taken)) (c .leaf .ensures)
 
 pub part-returns-in-Break-c : need.part-returns-in-Break-c
 part-returns-in-Break-c ring c =
