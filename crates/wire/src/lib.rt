@@ -1,8 +1,11 @@
 // Calls and answers as framed bytes. No kind of call is built yet: each is turned away.
 ghost use mathlib.Core.Path.{_≡_};
-ghost use Rattle.wire.specs.Frames.{fourAt, tagOf, isCall, refusalOf, digitOf};
+ghost use Rattle.wire.specs.Frames.{fourAt, tagOf, isCall, refusalOf, digitOf, bytesOf, small, isIn, frameOf, digits, isTime, Answered};
+ghost use Rattle.std.specs.declared.option.Option.the-variants.{Some, None};
+ghost use Rattle.std.specs.declared.result.Result.the-variants.{Ok, Err};
+ghost use Rattle.std.specs.Of.Vec.{vec-items};
 ghost use Prim.Native.Nat.{_+_, _<_};
-ghost use lib.ListN.{length};
+ghost use lib.ListN.{length, drop};
 use std::alloc::AllocError;
 use std::alloc::Global;
 
@@ -48,7 +51,8 @@ pub fn answer(frame: &[u8]) -> Refusal
 
 // The value of a hexadecimal digit, in either case.
 pub fn digit(b: u8) -> Option<u8>
-    ensures { λ r. ⌜ r ≡ digitOf b ⌝ }
+    ensures is { λ r. ⌜ r ≡ digitOf b ⌝ }
+    ensures low { λ r. ⌜ small r ⌝ }
 {
     match b {
         b'0'..=b'9' => Some(b - b'0'),
@@ -59,7 +63,9 @@ pub fn digit(b: u8) -> Option<u8>
 }
 
 // The bytes that a text in hexadecimal is; None where it is none.
-pub fn from_hex(heap: Global, text: &[u8]) -> Result<Option<Vec<u8>>, AllocError> {
+pub fn from_hex(heap: Global, text: &[u8]) -> Result<Option<Vec<u8>>, AllocError>
+    ensures { λ r. ⌜ elim r [ Ok o ↦ elim o [ Some v ↦ bytesOf (now (text .entry)) ≡ Some (vec-items v) | None ↦ bytesOf (now (text .entry)) ≡ None ] | Err e ↦ Unit {0} ] ⌝ }
+{
     if text.len() % 2 != 0 {
         return Ok(None);
     }
@@ -71,36 +77,61 @@ pub fn from_hex(heap: Global, text: &[u8]) -> Result<Option<Vec<u8>>, AllocError
         let Some(low) = digit(text[2 * i + 1]) else {
             return Ok(None);
         };
-        bytes.push((high & 15) * 16 + (low & 15))?;
+        bytes.push(high * 16 + low)?;
     }
     Ok(Some(bytes))
 }
 
-// Answers a line of a house's input: `in` and a frame in hexadecimal, or `time` and a number; all else is no call.
-pub fn answer_line(heap: Global, line: &[u8]) -> Result<Refusal, AllocError> {
-    if line.len() >= 3 && line[0] == b'i' && line[1] == b'n' && line[2] == b' ' {
-        if let Some(frame) = from_hex(heap, &line[3..])? {
-            return Ok(answer(frame.as_slice()));
-        }
-    }
-    if is_time(line) {
-        return Ok(Refusal { tag: 0, number: 12 });
-    }
-    Ok(Refusal { tag: 0, number: 10 })
+// The word in and a blank.
+fn is_in(line: &[u8]) -> bool
+    ensures { λ r. ⌜ r ≡ isIn (now (line .entry)) ⌝ }
+{
+    line.len() >= 3 && line[0] == b'i' && line[1] == b'n' && line[2] == b' '
 }
 
-// The word time, a blank and digits.
-fn is_time(line: &[u8]) -> bool {
-    if line.len() < 6 || line.len() > 25 {
-        return false;
+// The frame of a line; None where it has none.
+fn frame_of(heap: Global, line: &[u8]) -> Result<Option<Vec<u8>>, AllocError>
+    ensures { λ r. ⌜ elim r [ Ok o ↦ elim o [ Some v ↦ frameOf (now (line .entry)) ≡ Some (vec-items v) | None ↦ frameOf (now (line .entry)) ≡ None ] | Err e ↦ Unit {0} ] ⌝ }
+{
+    if line.len() < 3 || !is_in(line) {
+        return Ok(None);
     }
-    if &line[0..5] != b"time " {
-        return false;
+    from_hex(heap, &line[3..])
+}
+
+// Answers a line of a house's input: `in` and a frame in hexadecimal, or `time` and a number; all else is no call.
+pub fn answer_line(heap: Global, line: &[u8]) -> Result<Refusal, AllocError>
+    ensures { λ r. ⌜ elim r [ Ok a ↦ Answered (frameOf (now (line .entry))) (isTime (now (line .entry))) a | Err e ↦ Unit {0} ] ⌝ }
+{
+    if let Some(frame) = frame_of(heap, line)? {
+        return Ok(answer(frame.as_slice()));
     }
-    for b in &line[5..] {
-        if *b < b'0' || *b > b'9' {
+    let number = if is_time(line) { 12 } else { 10 };
+    Ok(Refusal { tag: 0, number })
+}
+
+// Nothing but digits from this place on.
+fn all_digits(line: &[u8], from: usize) -> bool
+    ensures { λ r. ⌜ r ≡ digits (drop from (now (line .entry))) ⌝ }
+{
+    for i in from..line.len() {
+        if line[i] < b'0' || line[i] > b'9' {
             return false;
         }
     }
     true
+}
+
+// The word time, a blank, and 1 to 20 digits.
+fn is_time(line: &[u8]) -> bool
+    ensures { λ r. ⌜ r ≡ isTime (now (line .entry)) ⌝ }
+{
+    line.len() >= 6
+        && line.len() <= 25
+        && line[0] == b't'
+        && line[1] == b'i'
+        && line[2] == b'm'
+        && line[3] == b'e'
+        && line[4] == b' '
+        && all_digits(line, 5)
 }
