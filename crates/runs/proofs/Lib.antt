@@ -1,0 +1,9 @@
+pub mod Moves
+pub mod Told
+pub mod Heads
+pub mod Stands
+pub mod Whole
+pub mod Arms
+pub mod Ties
+pub mod Loops
+pub mod Tidings
