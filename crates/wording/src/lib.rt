@@ -6,19 +6,24 @@ use text::Key;
 // Why a text is no plan. A number or a variable that is past its limit is no token, so that the text has to be looked at again.
 pub fn wording(text: &[u8], why: NoPlan) -> &'static str {
     match why.expected {
-        Expected::Expression => operand(text, why.at, "an expression"),
-        Expected::Number => operand(text, why.at, "a number"),
+        Expected::Expression => operand(text, why.at),
+        Expected::Number => number(text, why.at, "a number"),
         expected => other_wording(expected),
     }
 }
 
 // What was expected in place of an operand.
-fn operand(text: &[u8], at: usize, otherwise: &'static str) -> &'static str {
-    if is_number(text, at) {
-        return "a number below 18446744073709551616";
-    }
+fn operand(text: &[u8], at: usize) -> &'static str {
     if at < text.len() && text[at] == b'v' && is_number(text, at + 1) {
         return "a variable v0 to v63";
+    }
+    number(text, at, "an expression")
+}
+
+// What was expected in place of digits, if digits stand there.
+fn number(text: &[u8], at: usize, otherwise: &'static str) -> &'static str {
+    if is_number(text, at) {
+        return "a number below 18446744073709551616";
     }
     otherwise
 }
