@@ -1,5 +1,7 @@
 // Operations a second of each memory. `bench_lines ROUNDS PATH` makes so many rounds on the simulated memory, and a hundredth of them on the
 // memory in the file PATH, which is made if it is not there. A round stores and loads 128 words of 16 lines, pushes these, and sets a fence.
+#![tactic(auto)]
+
 use anyhow::anyhow;
 use device::Device;
 use file_memory::open::open;

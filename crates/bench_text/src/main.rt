@@ -1,5 +1,7 @@
 // How fast plans are read and printed: `bench_text N` does each N times and writes megabytes a second. Without an argument
 // it reads and prints each text once, and writes sizes only.
+#![tactic(auto)]
+
 use anyhow::anyhow;
 use plans::kinds::MOST_WORDS;
 use plans::sheet::Slate;

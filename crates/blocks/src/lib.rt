@@ -1,4 +1,6 @@
 // Words in blocks of lasting memory that need not be neighbours.
+#![tactic(auto)]
+
 ghost use Rattle.std.specs.Prelude.{◌≡◌, ℕ, ◌+◌, ◌-◌, ◌*◌, ◌/◌, ◌%◌, ◌^◌, ◌<◌, ◌≤◌, length, get_or};
 ghost use Rattle.device.specs.Does.{Did};
 ghost use Rattle.blocks.specs.Works.{blocks_in, inside as held, line_in, load_via, store_via, push_via, save_via};

@@ -1,4 +1,6 @@
 // The calls of a house and its answers: as values, and as bytes.
+#![tactic(auto)]
+
 pub mod bytes;
 pub mod lines;
 pub mod read;

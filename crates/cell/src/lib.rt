@@ -1,5 +1,7 @@
 // A cell of sixteen words that lasts: it is kept twice, and a root word says which copy counts. The smallest thing that is built on memory
 // in lines; it shows how the parts fit together.
+#![tactic(auto)]
+
 ghost use Rattle.std.specs.Prelude.{◌≡◌, refl, List, ℕ, ◌+◌, ◌*◌, ◌<◌, ◌≤◌};
 ghost use Rattle.device.specs.Lines.{Sensible, Modest};
 ghost use Rattle.device.specs.Does.{Did};

@@ -2,6 +2,8 @@
 //
 // A store reaches the memory at some time, or never if the power fails first. A push tells the cache to write a line back, and a fence waits
 // until all that was pushed has reached the memory.
+#![tactic(auto)]
+
 ghost use Rattle.std.specs.Prelude.{◌≡◌, Bool, true, false, ℕ, ◌+◌, ◌*◌, ◌<◌, ◌≤◌};
 ghost use Rattle.device.specs.Lines.{Lines, Engine, Sense, Sensible, Modest};
 ghost use Rattle.device.specs.Does.{Op, Loaded, Stored, Pushed, Fenced, DidBinds};

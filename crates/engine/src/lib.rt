@@ -1,4 +1,6 @@
 // The house over lasting memory: each call loads what it concerns, does one pure step, writes where nothing counts, and flips.
+#![tactic(auto)]
+
 pub mod held;
 pub mod look;
 pub mod start;

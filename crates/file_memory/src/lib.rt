@@ -1,4 +1,6 @@
 // The memory in a file.
+#![tactic(auto)]
+
 pub mod bytes;
 pub mod memory;
 pub mod open;

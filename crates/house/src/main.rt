@@ -1,4 +1,6 @@
 // The house: answers each line of standard input by one line of standard output. No kind of call is built yet.
+#![tactic(auto)]
+
 use std::io;
 use std::io::{BufRead, BufReader};
 use wire::{Refusal, answer_line};

@@ -1,5 +1,6 @@
 // Tests of the memories: what a power failure leaves of the simulated one, a cell that is cut off at every operation, and the memory in a
 // file, in a folder of its own.
+#![tactic(auto)]
 
 mod cells;
 mod failures;

@@ -1,4 +1,6 @@
 // One flow with its task: what an event does to it, and the words of a page that say it.
+#![tactic(auto)]
+
 pub mod event;
 pub mod flow;
 pub mod layout;

@@ -1,4 +1,6 @@
 // Prints plans from their flat form.
+#![tactic(auto)]
+
 ghost use Rattle.std.specs.Prelude.{◌≡◌, ℕ, ◌+◌, ◌-◌, ◌*◌, ◌<◌, ◌≤◌, min, true, List, [], ◌++◌, length, drop, IfOk, if◌then◌else◌, codes, decimal, nat_lt};
 ghost use Rattle.plans.specs.Plan.{Name, every, word_ok, Expr, sizes, Stmt, Set, Do, Hear, If, While, Guard, Block, stmt_ok, block_ok};
 ghost use Rattle.plans.specs.Flat.{code_of, codes_of, IsFlat};

@@ -1,4 +1,6 @@
 // Prints a plan well laid out, from the file that is named or from standard input; or says where it is no plan.
+#![tactic(auto)]
+
 use anyhow::anyhow;
 use reading::LONGEST_TEXT;
 use reading::error::NoPlan;

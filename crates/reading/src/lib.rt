@@ -1,4 +1,6 @@
 // Reading: from the text of a plan to its draft.
+#![tactic(auto)]
+
 ghost use Rattle.std.specs.Prelude.{◌≡◌, ℕ, ◌*◌, ◌≤◌, length};
 ghost use Rattle.text.specs.Ahead.{stops};
 ghost use Rattle.plans.specs.Plan.{Block, size_of};

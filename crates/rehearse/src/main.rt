@@ -1,4 +1,6 @@
 // Rehearses a script: one thing a line. No kind of call is built yet, so each is answered by `no 12`.
+#![tactic(auto)]
+
 use anyhow::anyhow;
 use std::io::{BufRead, BufReader};
 

@@ -1,4 +1,6 @@
 // One run of a plan: the machine that carries it out on its flat form.
+#![tactic(auto)]
+
 pub mod event;
 pub mod flow;
 pub mod step;

@@ -1,6 +1,8 @@
 // Carries plans out of a table, one a line: a name, a blank, and a plan. Each is answered by one line: its name, and what it comes to
 // time after time, with the moves that it made. A task's result is the sum of its kind and its arguments; a sleep ends at its time;
 // no word ever comes. A plan is left alone after twenty runs.
+#![tactic(auto)]
+
 use anyhow::anyhow;
 use plans::kinds::MOST_WORDS;
 use plans::sheet::Slate;

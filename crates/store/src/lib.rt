@@ -1,4 +1,6 @@
 // The layout of the lasting memory: root pages, directory, pages kept twice, plans in blocks.
+#![tactic(auto)]
+
 pub mod dir;
 pub mod entry;
 pub mod keep;

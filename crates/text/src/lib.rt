@@ -1,4 +1,6 @@
 // The text of plans: its tokens, and what is promised of the language.
+#![tactic(auto)]
+
 ghost use Rattle.text.specs.Promise.{OnePlan, ReadsExactly, SaysExactly, Printed, ReadBack, SamePlans};
 ghost use Rattle.std.specs.Prelude.{◌≡◌, ℕ, ◌+◌, ◌-◌, ◌<◌, ◌≤◌, true, false, List, length, drop, slice_index, slice_range};
 ghost use Rattle.std.specs.Str.{bytes_eq};

@@ -1,5 +1,7 @@
 // Reads a table of texts, one case a line: a name, a blank, and a text written with escapes. Answers each by one line:
 // `NAME plan SIZE TEXT`, where a plan's text as it is printed stands only if it is short, or `NAME no AT EXPECTED`.
+#![tactic(auto)]
+
 mod escapes;
 
 use anyhow::anyhow;

@@ -1,4 +1,6 @@
 // Tidying: a plan's text, read and printed well laid out; or where it is no plan.
+#![tactic(auto)]
+
 ghost use Rattle.std.specs.Prelude.{◌≡◌, ℕ, ◌≤◌, min, true, length, take, IfSome, Ok, Err, vec_len};
 ghost use Rattle.plans.specs.Plan.{Block, block_ok};
 ghost use Rattle.plans.specs.Flat.{laid};

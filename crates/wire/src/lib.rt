@@ -1,4 +1,6 @@
 // Calls and answers as framed bytes. No kind of call is built yet: each is turned away.
+#![tactic(auto)]
+
 ghost use Rattle.std.specs.Prelude.{◌≡◌, ◌+◌, ◌<◌, length, drop, Some, None, Ok, Err};
 ghost use Rattle.wire.specs.Frames.{four_at, tag_of, is_call, refusal_of, digit_of, bytes_of, small, is_in, frame_of, digits, is_time, Answered};
 

@@ -1,4 +1,6 @@
 // What was expected at a place of a text, in words.
+#![tactic(auto)]
+
 use reading::error::{Expected, NoPlan};
 use text::Key;
 

@@ -1,4 +1,6 @@
 // Runs of words in memory that lasts, and the flip of a root word.
+#![tactic(auto)]
+
 ghost use Rattle.std.specs.Prelude.{◌≡◌, ℕ, ◌+◌, ◌*◌, ◌/◌, ◌^◌, ◌<◌, ◌≤◌, length};
 ghost use Rattle.device.specs.Does.{Did};
 ghost use Rattle.device.specs.Flips.{commit_work};

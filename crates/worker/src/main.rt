@@ -1,5 +1,7 @@
 // A worker: asks a house through standard output for a task of kind 0, and ends where it is given none.
 // It knows of no answer but being turned away yet.
+#![tactic(auto)]
+
 use std::io;
 use std::io::{BufRead, BufReader};
 
