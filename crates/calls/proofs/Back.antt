@@ -1,5 +1,5 @@
 -- What was written is read back.
-use Rattle.std.proofs.Common.{◌≡◌, ℕ, zero, suc, ◌+◌, ◌*◌, ◌/◌, ◌%◌, ◌<◌, ◌≤◌, Bool, true, false, cond, ◌&&◌, eqb, leb, List, [], ◌∷◌, ◌++◌, length, get_or, take, drop, Some, None, Option, sym, refl, ap, ◌∙◌, append_assoc, append_nil, arith, lit<, length-append}
+use Rattle.std.proofs.Common.{◌≡◌, ℕ, zero, suc, ◌+◌, ◌*◌, ◌/◌, ◌%◌, ◌<◌, ◌≤◌, Bool, true, false, cond, ◌&&◌, eqb, leb, List, [], ◌∷◌, ◌++◌, length, get_or, take, drop, Some, None, Option, sym, refl, ap, ◌∙◌, append_assoc, append-nil, arith, lit<, length-append}
 use native.Mathlib.Nat.{mul-div_right, div-div-eq-div-mul}
 use lib.Seq.{take-append_seam, drop-append_seam}
 use Rattle.calls.specs.Bytes.{two_at, four_at, eight_at, eights, fours, words_in, kinds_in, two_bytes, four_bytes, eight_bytes, all_eight, all_four}
@@ -81,14 +81,14 @@ at_kind : (n : ℕ) (f : List ℕ) → raw_in (n ∷ f) ≡ kind_in n f
 at_kind n f = at_least 1 (n ∷ f) (kind_in n f) None (omega arith)
 
 alone : (k : List ℕ) → only_key (short_in (length k ∷ k)) ≡ Some k
-alone k = ap (λ x. only_key (short_in (length k ∷ x))) (sym (append_nil k)) ∙ ap only_key (short_back k [])
+alone k = ap (λ x. only_key (short_in (length k ∷ x))) (sym (append-nil k)) ∙ ap only_key (short_back k [])
 
 start_back : (k t ws : List ℕ) → StartIn k t ws → kind_in 1 (length k ∷ (k ++ (four_bytes (length t) ++ (t ++ (length ws ∷ all_eight ws))))) ≡ Some (Start' k t ws)
 unfolding kind_in
 start_back k t ws h =
     ap start_key (short_back k (four_bytes (length t) ++ (t ++ (length ws ∷ all_eight ws))))
     ∙ (ap (start_plan k) (long_back t (length ws ∷ all_eight ws) h.few)
-    ∙ (ap (λ x. start_words k t (many_in 8 (length ws ∷ x))) (sym (append_nil (all_eight ws)))
+    ∙ (ap (λ x. start_words k t (many_in 8 (length ws ∷ x))) (sym (append-nil (all_eight ws)))
     ∙ (ap (start_words k t) (many_back 8 (length ws) (all_eight ws) [] (length_all_eight ws))
     ∙ ap (λ x. Some (Start' k t x)) (words_back ws h.words))))
 

@@ -1,5 +1,5 @@
 -- What is read was written so.
-use Rattle.std.proofs.Common.{◌≡◌, ℕ, zero, suc, ◌+◌, ◌-◌, ◌*◌, ◌/◌, ◌%◌, ◌<◌, ◌≤◌, Bool, true, false, cond, ◌&&◌, eqb, leb, List, [], ◌∷◌, ◌++◌, length, get_or, take, drop, Some, None, Option, sym, refl, ap, ◌∙◌, subst, append_assoc, append_nil, arith, length-append, length-drop, take-append-drop, length-take-le, drop-cons, drop-drop, eqb-true, leb-true}
+use Rattle.std.proofs.Common.{◌≡◌, ℕ, zero, suc, ◌+◌, ◌-◌, ◌*◌, ◌/◌, ◌%◌, ◌<◌, ◌≤◌, Bool, true, false, cond, ◌&&◌, eqb, leb, List, [], ◌∷◌, ◌++◌, length, get_or, take, drop, Some, None, Option, sym, refl, ap, ◌∙◌, subst, append_assoc, append-nil, arith, length-append, length-drop, take-append-drop, length-take-le, drop-cons, drop-drop, eqb-true, leb-true}
 use Rattle.std.proofs.lemmas.Bool.{and_parts}
 use Rattle.calls.specs.Bytes.{two_at, four_at, eight_at, eights, fours, words_in, kinds_in, two_bytes, four_bytes, eight_bytes, all_eight, all_four}
 use Rattle.calls.specs.Parts.{Front, front, cut_in, short_in, long_in, many_in}
@@ -251,7 +251,7 @@ alone_forth f k (Some p) i e =
     let z = none_left p.rest (eqb-true (length p.rest) 0 o.0) in
     let s = o.1 in
     let q : k ≡ p.part = cc in
-    ap (λ x. length x ∷ x) q ∙ (ap (λ x. length p.part ∷ x) (sym (append_nil p.part) ∙ ap (λ r. p.part ++ r) (sym z)) ∙ short_forth f p i)
+    ap (λ x. length x ∷ x) q ∙ (ap (λ x. length p.part ∷ x) (sym (append-nil p.part) ∙ ap (λ r. p.part ++ r) (sym z)) ∙ short_forth f p i)
 
 pub keyed_forth : (m : List ℕ → Raw) (f : List ℕ) (c : Raw) (o : Option (List ℕ)) → only_key (short_in f) ≡ o → keyed m o ≡ Some c → (k : List ℕ) × (c ≡ m k) × (length k ∷ k ≡ f)
 keyed_forth m f c None i e = no_some e
@@ -311,7 +311,7 @@ start_words_lem k t g c (Some p) h i e =
     let m = many_forth 8 g p i in
     let b = below_tail m.n (p.part ++ p.rest) (subst (Below 256) (sym m.is) h) in
     let w : length (words_in p.part) ∷ all_eight (words_in p.part) ≡ g =
-    ap (λ x. length (words_in p.part) ∷ x) (sym (append_nil (all_eight (words_in p.part))) ∙ ap (λ r. all_eight (words_in p.part) ++ r) (sym z))
+    ap (λ x. length (words_in p.part) ∷ x) (sym (append-nil (all_eight (words_in p.part))) ∙ ap (λ r. all_eight (words_in p.part) ++ r) (sym z))
     ∙ (words_forth m.n p.part p.rest m.len (below_left p.part p.rest b) ∙ m.is) in
     ap raw_bytes q ∙ ap (λ x. 1 ∷ (length k ∷ (k ++ (four_bytes (length t) ++ (t ++ x))))) w
 

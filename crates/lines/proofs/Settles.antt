@@ -1,6 +1,6 @@
 -- What the walks along the journal do to one line.
 -- Assumes nothing.
-use Rattle.std.proofs.Common.{◌≡◌, ℕ, zero, suc, ◌+◌, ◌-◌, ◌*◌, ◌/◌, ◌%◌, ◌<◌, ◌≤◌, Bool, true, false, cond, eqb, ltb, ◌⊎◌, List, [], ◌∷◌, ◌++◌, length, get_or, set, sym, refl, ap, ◌∙◌, subst, inl, inr, append_assoc, append_nil, arith, length-append, length-set, get_or-set_other, get_or-set_same, ltb-false, ltb-true, eq-eqb, ne_eqb, eqb-true}
+use Rattle.std.proofs.Common.{◌≡◌, ℕ, zero, suc, ◌+◌, ◌-◌, ◌*◌, ◌/◌, ◌%◌, ◌<◌, ◌≤◌, Bool, true, false, cond, eqb, ltb, ◌⊎◌, List, [], ◌∷◌, ◌++◌, length, get_or, set, sym, refl, ap, ◌∙◌, subst, inl, inr, append_assoc, append-nil, arith, length-append, length-set, get_or-set_other, get_or-set_same, ltb-false, ltb-true, eq-eqb, ne_eqb, eqb-true}
 use lib.Seq.{set_out}
 use borrow.Author.Tests.{eqb-false}
 use Rattle.device.specs.Lines.{applied, first_of, drop_of}
@@ -58,7 +58,7 @@ own_snoc l xs x e = line_append l xs (x ∷ []) ∙ ap (λ r. of_line l xs ++ r)
 
 pub other_snoc : (l : ℕ) (xs : List Store) (x : Store) → (x.place / 8 ≡ l → ⊥) → of_line l (xs ++ (x ∷ [])) ≡ of_line l xs
 unfolding of_line
-other_snoc l xs x e = line_append l xs (x ∷ []) ∙ ap (λ r. of_line l xs ++ r) (other_line l x [] e) ∙ append_nil (of_line l xs)
+other_snoc l xs x e = line_append l xs (x ∷ []) ∙ ap (λ r. of_line l xs ++ r) (other_line l x [] e) ∙ append-nil (of_line l xs)
 
 -- ---- the walk of a fence
 
@@ -221,7 +221,7 @@ pub settled : (n l w : ℕ) → l < n → w < 8 → (xs : List Store) (z : Settl
 unfolding settle of_line applied
 settled n l w hl hw [] z inside s c = record {
   pushed = omega arith;
-  kept = sym (append_nil (of_line l z.kept)) ∙ ap (λ ys. of_line l z.kept ++ ys) (sym (drop_none (get_or z.pushed l 0)));
+  kept = sym (append-nil (of_line l z.kept)) ∙ ap (λ ys. of_line l z.kept ++ ys) (sym (drop_none (get_or z.pushed l 0)));
   lasts = ap (λ ys. applied ys (λ k. get_or z.lasts (l * 8 + k) 0) w) (sym (first_none (get_or z.pushed l 0)));
   counts = c ∙ omega arith;
 }

@@ -1,5 +1,5 @@
 -- What was written is read. Assumes nothing.
-use Rattle.std.proofs.Common.{◌≡◌, ℕ, zero, suc, ◌+◌, ◌-◌, ◌<◌, ◌≤◌, Bool, true, false, cond, ◌&&◌, ltb, List, [], ◌∷◌, ◌++◌, length, get_or, take, drop, replicate, Some, None, Ok, Err, Option, Result, sym, refl, ap, ◌∙◌, subst, ap₂, append_assoc, append_nil, arith, length-append, length-drop, drop_of_length-le, length-take, length-take-le, take_all, take_at, drop_at}
+use Rattle.std.proofs.Common.{◌≡◌, ℕ, zero, suc, ◌+◌, ◌-◌, ◌<◌, ◌≤◌, Bool, true, false, cond, ◌&&◌, ltb, List, [], ◌∷◌, ◌++◌, length, get_or, take, drop, replicate, Some, None, Ok, Err, Option, Result, sym, refl, ap, ◌∙◌, subst, ap₂, append_assoc, append-nil, arith, length-append, length-drop, drop_of_length-le, length-take, length-take-le, take_all, take_at, drop_at}
 use lib.ListN.{length-replicate}
 use lib.Seq.{take-append_seam, drop-append_seam, take-append-add}
 use borrow.Rule.Slice.PartMut.{put_mid, post_of}
@@ -59,7 +59,7 @@ laid a b c z out la lb lc lo =
     ∙ ap (λ (l : List ℕ). put_mid 96 32 l z) (put_at_lem (a ++ b) c r1 32 64 l2 ∙ sym (append_assoc (a ++ b) c r2))
     ∙ put_at_lem ((a ++ b) ++ c) z r2 96 32 l3
     ∙ ap (λ (l : List ℕ). ((a ++ b) ++ c) ++ (z ++ l)) none
-    ∙ simp (append_assoc, append_nil)
+    ∙ simp (append_assoc, append-nil)
   where
     r0 : List ℕ
     r0 = drop 8 out
@@ -83,4 +83,4 @@ laid a b c z out la lb lc lo =
     none = drop_of_length-le r2 long
 
 pub task_laid : (a b c d e f g h : ℕ) (args : List ℕ) → put_mid 8 16 ((a ∷ b ∷ c ∷ d ∷ e ∷ f ∷ g ∷ h ∷ []) ++ post_of 0 8 (zeros 24)) args ≡ a ∷ b ∷ c ∷ d ∷ e ∷ f ∷ g ∷ h ∷ args
-task_laid a b c d e f g h args = ap (λ (l : List ℕ). a ∷ b ∷ c ∷ d ∷ e ∷ f ∷ g ∷ h ∷ l) (append_nil args)
+task_laid a b c d e f g h args = ap (λ (l : List ℕ). a ∷ b ∷ c ∷ d ∷ e ∷ f ∷ g ∷ h ∷ l) (append-nil args)

@@ -1,5 +1,5 @@
 -- Statements with parts, and parts: what is written of them, piece by piece.
-use Rattle.std.proofs.Common.{◌≡◌, ℕ, zero, suc, ◌+◌, ◌-◌, ◌*◌, ◌<◌, ◌≤◌, Bool, true, false, cond, eqb, List, [], ◌∷◌, ◌++◌, length, get_or, take, drop, Ok, Err, Result, sym, refl, ap, ◌∙◌, subst, append_assoc, append_nil, add-one, arith, length-append, length-drop}
+use Rattle.std.proofs.Common.{◌≡◌, ℕ, zero, suc, ◌+◌, ◌-◌, ◌*◌, ◌<◌, ◌≤◌, Bool, true, false, cond, eqb, List, [], ◌∷◌, ◌++◌, length, get_or, take, drop, Ok, Err, Result, sym, refl, ap, ◌∙◌, subst, append_assoc, append-nil, add-one, arith, length-append, length-drop}
 use Rattle.std.proofs.lemmas.Bool.Decides.{nat_tests}
 use Rattle.plans.specs.declared.link.LinkError.{LinkError}
 use Rattle.plans.specs.declared.link.LinkError.TheVariants.{NoRoom, Damaged}
@@ -274,7 +274,7 @@ is_simple_lem (Return e) na nb nc = refl
 is_simple_lem FailNow na nb nc = refl
 
 pub some_size : (b : Block) → 1 ≤ size_of b
-some_size b = let x = draft_length b in let y = part_big b (draft_of b) 0 [] (sym (append_nil (draft_of b))) in omega arith
+some_size b = let x = draft_length b in let y = part_big b (draft_of b) 0 [] (sym (append-nil (draft_of b))) in omega arith
 
 -- a part that is empty
 pub end_linked : {S : Type 0} (wrote : S → ℕ → S → Type 0) (room : S → ℕ) (ds : List ℕ) (at : ℕ) (b : Block) (rest : List ℕ) (next n : ℕ) (w : Way) (a c : S) → get_or ds at 0 ≡ 12 → drop at ds ≡ draft_of b ++ rest →

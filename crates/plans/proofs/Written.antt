@@ -1,5 +1,5 @@
 -- Words written one after the other: joining, and how much room is left.
-use Rattle.std.proofs.Common.{◌≡◌, ℕ, zero, suc, ◌+◌, ◌-◌, ◌*◌, ◌<◌, ◌≤◌, List, [], ◌∷◌, ◌++◌, length, get_or, take, drop, sym, refl, ap, ◌∙◌, subst, append_assoc, append_nil, add-zero, add-one, arith, length-set, drop-cons}
+use Rattle.std.proofs.Common.{◌≡◌, ℕ, zero, suc, ◌+◌, ◌-◌, ◌*◌, ◌<◌, ◌≤◌, List, [], ◌∷◌, ◌++◌, length, get_or, take, drop, sym, refl, ap, ◌∙◌, subst, append_assoc, append-nil, add-zero, add-one, arith, length-set, drop-cons}
 use Rattle.std.proofs.lemmas.List.{drop_all, take_more_set}
 use Rattle.plans.specs.Noted.{Noted}
 use Rattle.plans.specs.Sheet.{Wrote, nothing, more, Step}
@@ -27,7 +27,7 @@ leads_all wrote ws i s0 s h k = k s (subst (λ (l : List ℕ). Wrote wrote l s s
 -- words written to plain memory stand there, behind those that stood there
 pub noted_all : {S : Type 0} (wrote : S → ℕ → S → Type 0) (room : S → ℕ) (items : S → List ℕ) (len : S → ℕ) → ((s : S) (w : ℕ) (t : S) → wrote s w t → Noted (items s) (len s) w (items t) (len t)) → {ws : List ℕ} {s t : S} → Wrote (Step wrote room) ws s t →
     (len t ≡ len s + length ws) × (take (len t) (items t) ≡ take (len s) (items s) ++ ws) × (length (items t) ≡ length (items s))
-noted_all wrote room items len f (nothing {s}) = (sym (add-zero (len s)), sym (append_nil (take (len s) (items s))), refl)
+noted_all wrote room items len f (nothing {s}) = (sym (add-zero (len s)), sym (append-nil (take (len s) (items s))), refl)
 noted_all wrote room items len f (more {s} {t} {u} {w} {ws} x h) =
     let n = f s w t x.0 in
     let k = noted_all wrote room items len f h in

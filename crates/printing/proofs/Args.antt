@@ -1,5 +1,5 @@
 -- The arguments of a task, the last first. Assumes nothing.
-use Rattle.std.proofs.Common.{◌≡◌, ℕ, zero, suc, ◌+◌, ◌-◌, ◌*◌, ◌<◌, ◌≤◌, ◌≢◌, List, [], ◌∷◌, ◌++◌, length, drop, codes, Result, sym, refl, ap, ◌∙◌, subst, append_assoc, append_nil, arith, length-append}
+use Rattle.std.proofs.Common.{◌≡◌, ℕ, zero, suc, ◌+◌, ◌-◌, ◌*◌, ◌<◌, ◌≤◌, ◌≢◌, List, [], ◌∷◌, ◌++◌, length, drop, codes, Result, sym, refl, ap, ◌∙◌, subst, append_assoc, append-nil, arith, length-append}
 use Rattle.plans.specs.Plan.{Expr, expr_size, sizes}
 use Rattle.plans.specs.Flat.{code_of, codes_of}
 use Rattle.text.specs.Grammar.{compare}
@@ -22,7 +22,7 @@ last_of e (f ∷ es) = let r = last_of f es in record { front = e ∷ r.front; l
 
 codes_last : (es : List Expr) (e : Expr) → codes_of (es ++ (e ∷ [])) ≡ codes_of es ++ code_of e
 unfolding codes_of
-codes_last [] e = append_nil (code_of e)
+codes_last [] e = append-nil (code_of e)
 codes_last (d ∷ es) e = rw (codes_last es e, append_assoc) refl
 
 sizes_last : (es : List Expr) (e : Expr) → sizes (es ++ (e ∷ [])) ≡ sizes es + expr_size e
@@ -32,7 +32,7 @@ sizes_last (d ∷ es) e = omega (arith, sizes_last es e)
 
 more_last : (es : List Expr) (e : Expr) → more_text (es ++ (e ∷ [])) ≡ more_text es ++ (codes ", " ++ expr_text compare e)
 unfolding more_text
-more_last [] e = rw append_nil refl
+more_last [] e = rw append-nil refl
 more_last (d ∷ es) e = rw (more_last es e) (simp append_assoc)
 
 args_last : (es : List Expr) (e : Expr) → 0 < length es → args_text (es ++ (e ∷ [])) ≡ args_text es ++ (codes ", " ++ expr_text compare e)
@@ -42,7 +42,7 @@ args_last (d ∷ es) e h = rw (more_last es e) (simp append_assoc)
 
 args_one : (es : List Expr) (e : Expr) → length es ≡ 0 → args_text (es ++ (e ∷ [])) ≡ expr_text compare e
 unfolding args_text more_text
-args_one [] e h = append_nil (expr_text compare e)
+args_one [] e h = append-nil (expr_text compare e)
 args_one (d ∷ es) e h = absurd (omega arith)
 
 -- the last of some arguments, and those before it
@@ -83,7 +83,7 @@ last_arg ws end count (d ∷ ds) a rest p h e n =
 
 pub no_args : (es : List Expr) (old : List ℕ) → length es ≡ 0 → old ≡ old ++ args_text es
 unfolding args_text
-no_args [] old h = sym (append_nil old)
+no_args [] old h = sym (append-nil old)
 no_args (e ∷ es) old h = absurd (omega arith)
 
 module _ (ws : List ℕ) (end count : ℕ) (es : List Expr) (a : ℕ) (x : LastArg ws end count es a) (r : Result (Unit {0}) PrintError) (old new : List ℕ) where

@@ -1,5 +1,5 @@
 -- The arms of the functions that print an expression. Assumes nothing.
-use Rattle.std.proofs.Common.{◌≡◌, ℕ, zero, suc, ◌+◌, ◌-◌, ◌*◌, ◌<◌, ◌≤◌, Bool, true, false, cond, ◌≢◌, List, [], ◌∷◌, ◌++◌, length, get_or, drop, Some, None, codes, decimal, Option, Result, sym, refl, ap, ◌∙◌, subst, append_assoc, append_nil, arith}
+use Rattle.std.proofs.Common.{◌≡◌, ℕ, zero, suc, ◌+◌, ◌-◌, ◌*◌, ◌<◌, ◌≤◌, Bool, true, false, cond, ◌≢◌, List, [], ◌∷◌, ◌++◌, length, get_or, drop, Some, None, codes, decimal, Option, Result, sym, refl, ap, ◌∙◌, subst, append_assoc, append-nil, arith}
 use Rattle.plans.specs.Plan.{Expr, expr_size}
 use Rattle.text.specs.Token.{Op, PLUS, MINUS, TIMES, LESS, SAME}
 use Rattle.text.specs.Grammar.{Level, unary, product, sum, compare}
@@ -101,7 +101,7 @@ low_arm ws low root h e x g = omega (arith, size_some e, x.ends)
 
 brackets : (fit : Bool) (x y z : List ℕ) → cond fit [] (40 ∷ []) ++ (x ++ (y ++ (z ++ cond fit [] (41 ∷ [])))) ≡ bracketed fit (x ++ (y ++ z))
 unfolding bracketed
-brackets true x y z = simp append_nil
+brackets true x y z = simp append-nil
 brackets false x y z = simp append_assoc
 
 -- what holds of an operation's operands, as the code finds them

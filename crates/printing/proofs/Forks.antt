@@ -1,5 +1,5 @@
 -- Statements that hold parts. Assumes nothing.
-use Rattle.std.proofs.Common.{◌≡◌, ℕ, suc, ◌+◌, ◌*◌, ◌%◌, ◌≤◌, min, Bool, true, false, not, ◌&&◌, eqb, ltb, List, [], ◌∷◌, ◌++◌, length, get_or, drop, Ok, codes, sym, refl, ap, ◌∙◌, subst, append_assoc, append_nil, arith}
+use Rattle.std.proofs.Common.{◌≡◌, ℕ, suc, ◌+◌, ◌*◌, ◌%◌, ◌≤◌, min, Bool, true, false, not, ◌&&◌, eqb, ltb, List, [], ◌∷◌, ◌++◌, length, get_or, drop, Ok, codes, sym, refl, ap, ◌∙◌, subst, append_assoc, append-nil, arith}
 use Rattle.plans.specs.Plan.{Name, word_ok, Expr, expr_ok, expr_size, stmt_size, size_of, Stmt, Set, Do, Sleep, Hear, If, While, Guard, Return, FailNow, Block, done, then, stmt_ok, block_ok}
 use Rattle.plans.specs.Flat.{code_of, entry, lay, lay_stmt, laid, Nowhere, To, IsFlat}
 use Rattle.text.specs.Grammar.{compare}
@@ -118,7 +118,7 @@ hear_word v w n e h = and_second (ltb v 64 && ltb w 64 && not (eqb v w)) (word_o
 -- a whole plan
 pub whole : (ws : List ℕ) (b : Block) → IsFlat ws b → PartAt ws 0 b []
 unfolding laid
-whole ws b h = record { place = 0; next = _; way = Nowhere; under = 0; is = h ∙ sym (append_nil _) }
+whole ws b h = record { place = 0; next = _; way = Nowhere; under = 0; is = h ∙ sym (append-nil _) }
 
 -- the arm that prints a failure
 pub fail_arm : (ws : List ℕ) (at depth : ℕ) (old mid new : List ℕ) → get_or ws at 0 % 32 ≡ 11 → mid ≡ old ++ indent depth → new ≡ mid ++ (codes "fail" ++ eol) →

@@ -1,5 +1,5 @@
 -- Parts and statements where they stand in the words. Assumes nothing.
-use Rattle.std.proofs.Common.{◌≡◌, ℕ, zero, suc, ◌+◌, ◌-◌, ◌*◌, ◌%◌, ◌<◌, ◌≤◌, min, Bool, true, false, cond, ◌&&◌, eqb, ltb, leb, ◌≢◌, List, [], ◌∷◌, ◌++◌, length, get_or, take, drop, replicate, codes, decimal, Result, sym, refl, ap, ◌∙◌, subst, append_assoc, append_nil, arith}
+use Rattle.std.proofs.Common.{◌≡◌, ℕ, zero, suc, ◌+◌, ◌-◌, ◌*◌, ◌%◌, ◌<◌, ◌≤◌, min, Bool, true, false, cond, ◌&&◌, eqb, ltb, leb, ◌≢◌, List, [], ◌∷◌, ◌++◌, length, get_or, take, drop, replicate, codes, decimal, Result, sym, refl, ap, ◌∙◌, subst, append_assoc, append-nil, arith}
 use native.Mathlib.Nat.{add-mul-mod_self_left}
 use Rattle.std.proofs.lemmas.Bool.Decides.{nat_tests}
 use Rattle.plans.specs.Plan.{Name, Expr, expr_size, stmt_size, size_of, Stmt, Set, Do, Sleep, Hear, If, While, Guard, Return, FailNow, Block, done, then, stmt_ok, block_ok}
@@ -231,7 +231,7 @@ unfolding lines_of
 goes_end ws here d b rest old text h g = go g.left g.stands g.said
   where
     go : (l : Block) → PartAt ws here l rest → text ++ lines_of d l ≡ old ++ lines_of d b → (drop (here + 4) ws ≡ rest) × (text ≡ old ++ lines_of d b)
-    go done x e = (end_past ws here rest x, sym (append_nil text) ∙ e)
+    go done x e = (end_past ws here rest x, sym (append-nil text) ∙ e)
     go (then s l) x e = absurd (not_end (kind_of s) (sym (stmt_kind ws here s _ (next_stmt ws here s l rest x).stmt) ∙ h))
 
 pub goes_room : (ws : List ℕ) (here d : ℕ) (b : Block) (rest old text : List ℕ) → length ws < here + 4 → Goes ws here d b rest old text → ⊥

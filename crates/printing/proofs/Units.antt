@@ -1,5 +1,5 @@
 -- The units of expressions, and letters, where they stand in the words. Assumes nothing.
-use Rattle.std.proofs.Common.{◌≡◌, ℕ, zero, suc, ◌+◌, ◌-◌, ◌*◌, ◌<◌, ◌≤◌, Bool, true, false, cond, ◌&&◌, eqb, ltb, leb, ◌≢◌, List, [], ◌∷◌, ◌++◌, length, get_or, drop, replicate, Ok, Err, Result, sym, refl, ap, ◌∙◌, subst, append_assoc, append_nil, le_refl, add-one, arith, length-append, length-drop, drop-cons}
+use Rattle.std.proofs.Common.{◌≡◌, ℕ, zero, suc, ◌+◌, ◌-◌, ◌*◌, ◌<◌, ◌≤◌, Bool, true, false, cond, ◌&&◌, eqb, ltb, leb, ◌≢◌, List, [], ◌∷◌, ◌++◌, length, get_or, drop, replicate, Ok, Err, Result, sym, refl, ap, ◌∙◌, subst, append_assoc, append-nil, le_refl, add-one, arith, length-append, length-drop, drop-cons}
 use Rattle.std.proofs.lemmas.Bool.Decides.{nat_tests}
 use Rattle.std.proofs.lemmas.List.{drop_all}
 use Rattle.plans.specs.Plan.{Name, every, name_ok, word_ok, Expr, Lit, Var, Plus, Minus, Times, Less, Same, Not, expr_size, sizes}
@@ -122,7 +122,7 @@ letter_added mid new all ws i h z e n =
     ap (λ (x : List ℕ). x ++ letters_in (drop (i + 1) ws)) n ∙ (append_assoc mid (get_or ws i 0 ∷ []) (letters_in (drop (i + 1) ws)) ∙ (ap (λ (x : List ℕ). mid ++ x) (sym f) ∙ e))
 
 pub letters_done : (mid all xs : List ℕ) → xs ≡ [] → mid ++ xs ≡ all → mid ≡ all
-letters_done mid all xs h e = sym (append_nil mid) ∙ (ap (λ (x : List ℕ). mid ++ x) (sym h) ∙ e)
+letters_done mid all xs h e = sym (append-nil mid) ∙ (ap (λ (x : List ℕ). mid ++ x) (sym h) ∙ e)
 
 every_at : (ws : List ℕ) (i : ℕ) → every (λ (b : ℕ). ltb b 256) ws ≡ true → get_or ws i 0 < 256
 unfolding every

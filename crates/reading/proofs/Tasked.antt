@@ -1,5 +1,5 @@
 -- Tasks and hearings against the reader of tokens.
-use Rattle.std.proofs.Common.{◌≡◌, ℕ, zero, suc, ◌+◌, ◌-◌, ◌*◌, ◌/◌, ◌<◌, ◌≤◌, Bool, true, false, cond, not, ◌&&◌, eqb, ltb, leb, ◌⊎◌, List, [], ◌∷◌, ◌++◌, length, get_or, take, drop, set, replicate, Ok, Err, Result, sym, refl, ap, ◌∙◌, subst, inl, inr, append_assoc, append_nil, le_trans, le_refl, arith, length-append, length-drop, length-take-le}
+use Rattle.std.proofs.Common.{◌≡◌, ℕ, zero, suc, ◌+◌, ◌-◌, ◌*◌, ◌/◌, ◌<◌, ◌≤◌, Bool, true, false, cond, not, ◌&&◌, eqb, ltb, leb, ◌⊎◌, List, [], ◌∷◌, ◌++◌, length, get_or, take, drop, set, replicate, Ok, Err, Result, sym, refl, ap, ◌∙◌, subst, inl, inr, append_assoc, append-nil, le_trans, le_refl, arith, length-append, length-drop, length-take-le}
 use lib.Seq.{take-append-le, take-append-add}
 use Rattle.std.proofs.lemmas.List.{take-take, drop-take, drop_at, set_at, take_more, drop_more, get_or-take, get_or_append_left, get_or-append_right, get_or-replicate}
 use Rattle.std.proofs.lemmas.Bool.{false≢true}
@@ -276,7 +276,7 @@ args_words ys xs zs n m o e es h k = k ∙ (ap (λ (l : List ℕ). l ++ codes_of
 
 pub no_args_words : (xs : List ℕ) (n : ℕ) → take n xs ≡ take n xs ++ codes_of []
 unfolding codes_of
-no_args_words xs n = sym (append_nil (take n xs))
+no_args_words xs n = sym (append-nil (take n xs))
 
 -- a whole task
 number_is : {A : Type 0} (ts : List token.Token) (f : ℕ → List token.Token → Got A) → with_number ts f ≡ and_then (with_number ts got) f

@@ -1,5 +1,5 @@
 -- Reading a text in hexadecimal from its begin on.
-use Rattle.std.proofs.Common.{◌≡◌, ℕ, ◌+◌, ◌-◌, ◌*◌, ◌/◌, ◌%◌, ◌<◌, ◌≤◌, List, [], ◌∷◌, ◌++◌, length, get_or, take, drop, Some, None, Option, sym, refl, ap, ◌∙◌, subst, append_assoc, append_nil, add-one, arith, take-suc}
+use Rattle.std.proofs.Common.{◌≡◌, ℕ, ◌+◌, ◌-◌, ◌*◌, ◌/◌, ◌%◌, ◌<◌, ◌≤◌, List, [], ◌∷◌, ◌++◌, length, get_or, take, drop, Some, None, Option, sym, refl, ap, ◌∙◌, subst, append_assoc, append-nil, add-one, arith, take-suc}
 use Rattle.std.proofs.lemmas.List.{drop_more, drop_all}
 use Rattle.scripts.specs.Hex.{digit_of, pair_of, bytes_of, letter_of, text_of}
 
@@ -47,7 +47,7 @@ none_low xs bs i h lt p q e = e ∙ ap (before bs) (next xs i lt ∙ (ap (λ a. 
 
 pub hex_end : (xs bs : List ℕ) (i : ℕ) → length xs ≤ 2 * i → bytes_of xs ≡ before bs (bytes_of (drop (2 * i) xs)) → bytes_of xs ≡ Some bs
 unfolding bytes_of
-hex_end xs bs i le e = e ∙ ap (λ l. before bs (bytes_of l)) (drop_all (2 * i) xs le) ∙ ap Some (append_nil bs)
+hex_end xs bs i le e = e ∙ ap (λ l. before bs (bytes_of l)) (drop_all (2 * i) xs le) ∙ ap Some (append-nil bs)
 
 -- one byte more
 pub text_append : (xs ys : List ℕ) → text_of (xs ++ ys) ≡ text_of xs ++ text_of ys

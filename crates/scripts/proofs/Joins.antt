@@ -1,5 +1,5 @@
 -- Bytes put behind others.
-use Rattle.std.proofs.Common.{◌≡◌, ℕ, ◌+◌, ◌<◌, List, [], ◌∷◌, ◌++◌, length, get_or, take, sym, refl, ap, ◌∙◌, append_assoc, append_nil, take_all}
+use Rattle.std.proofs.Common.{◌≡◌, ℕ, ◌+◌, ◌<◌, List, [], ◌∷◌, ◌++◌, length, get_or, take, sym, refl, ap, ◌∙◌, append_assoc, append-nil, take_all}
 use Rattle.std.proofs.lemmas.List.{take_more}
 use Rattle.calls.specs.Bytes.{four_bytes, eight_bytes, all_eight, all_four}
 use Rattle.calls.proofs.Puts.{all_eight_append, one_eight, none_eight}
@@ -24,10 +24,10 @@ unfolding all_four
 none_four = refl
 
 pub no_eight : (a : List ℕ) → a ≡ a ++ all_eight []
-no_eight a = sym (ap (λ r. a ++ r) none_eight ∙ append_nil a)
+no_eight a = sym (ap (λ r. a ++ r) none_eight ∙ append-nil a)
 
 pub no_four : (a : List ℕ) → a ≡ a ++ all_four []
-no_four a = sym (ap (λ r. a ++ r) none_four ∙ append_nil a)
+no_four a = sym (ap (λ r. a ++ r) none_four ∙ append-nil a)
 
 pub more_eight : (a b c ws : List ℕ) (i : ℕ) → i < length ws → b ≡ a ++ all_eight (take i ws) → c ≡ b ++ eight_bytes (get_or ws i 0) → c ≡ a ++ all_eight (take (i + 1) ws)
 more_eight a b c ws i h e f =

@@ -1,5 +1,5 @@
 -- Turns of the loops that mark and choose blocks. Assumes nothing.
-use Rattle.std.proofs.Common.{◌≡◌, ℕ, zero, suc, ◌+◌, ◌-◌, ◌*◌, ◌<◌, ◌≤◌, min, Bool, true, false, cond, eqb, leb, List, [], ◌∷◌, ◌++◌, length, get_or, take, drop, set, replicate, Some, None, Option, sym, refl, ap, ◌∙◌, subst, append_nil, add-one, arith, length-set, take-append-drop, length-take, length-take-le, drop-cons, take-suc-set, eq-eqb, ne_eqb, le-leb}
+use Rattle.std.proofs.Common.{◌≡◌, ℕ, zero, suc, ◌+◌, ◌-◌, ◌*◌, ◌<◌, ◌≤◌, min, Bool, true, false, cond, eqb, leb, List, [], ◌∷◌, ◌++◌, length, get_or, take, drop, set, replicate, Some, None, Option, sym, refl, ap, ◌∙◌, subst, append-nil, add-one, arith, length-set, take-append-drop, length-take, length-take-le, drop-cons, take-suc-set, eq-eqb, ne_eqb, le-leb}
 use lib.ListN.{length-replicate}
 use lib.Seq.{append_snoc}
 use borrow.Author.Tests.{lt-leb}
@@ -101,7 +101,7 @@ take_none (suc n) = refl
 all_taken : (need : ℕ) (ms : List ℕ) (count : ℕ) (blocks : List ℕ) (b : ℕ) → length ms ≤ b → Choosing need ms count blocks b → take count blocks ≡ take need (zeros_from ms 0)
 unfolding zeros_from
 all_taken need ms count blocks b h (le, long, rest, all) =
-    sym (append_nil (take count blocks)) ∙ ap (λ xs. take count blocks ++ xs) (sym (ap (λ xs. take (need - count) (zeros_from xs b)) (drop_past b ms h) ∙ take_none (need - count))) ∙ all
+    sym (append-nil (take count blocks)) ∙ ap (λ xs. take count blocks ++ xs) (sym (ap (λ xs. take (need - count) (zeros_from xs b)) (drop_past b ms h) ∙ take_none (need - count))) ∙ all
 
 counted : (need : ℕ) (ms : List ℕ) (count : ℕ) (blocks : List ℕ) (b : ℕ) → need ≤ 18 → length ms ≤ b → Choosing need ms count blocks b → count ≡ min need (length (zeros_from ms 0))
 counted need ms count blocks b few h k =

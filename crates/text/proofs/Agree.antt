@@ -1,5 +1,5 @@
 -- The two grammars agree. Assumes nothing.
-use Rattle.std.proofs.Common.{◌≡◌, ℕ, zero, suc, ◌+◌, ◌-◌, ◌*◌, ◌<◌, ◌≤◌, Bool, true, false, cond, not, ◌&&◌, ◌||◌, T, eqb, ltb, leb, ◌⊎◌, List, [], ◌∷◌, ◌++◌, length, sym, refl, ap, ◌∙◌, subst, subst₂, inl, inr, append_assoc, append_nil, le_refl, arith}
+use Rattle.std.proofs.Common.{◌≡◌, ℕ, zero, suc, ◌+◌, ◌-◌, ◌*◌, ◌<◌, ◌≤◌, Bool, true, false, cond, not, ◌&&◌, ◌||◌, T, eqb, ltb, leb, ◌⊎◌, List, [], ◌∷◌, ◌++◌, length, sym, refl, ap, ◌∙◌, subst, subst₂, inl, inr, append_assoc, append-nil, le_refl, arith}
 use Rattle.std.proofs.lemmas.Bool.Decides.{nat_tests}
 use Rattle.plans.specs.Plan.{Name, Expr, Lit, Var, Plus, Minus, Times, Less, Same, Not, Stmt, Set, Do, Sleep, Hear, If, While, Guard, Return, FailNow, Block, done, then}
 use Rattle.text.specs.Token.{Key, SET, DO, TRIES, PAUSE, SLEEP, HEAR, FOR, IF, ELSE, WHILE, GUARD, RETURN, FAIL, NOT, OPEN, CLOSE, BEGIN, END, COMMA, Op, PLUS, MINUS, TIMES, LESS, SAME, Token, number, variable, name, op, key, Got, fails, got}
@@ -138,4 +138,4 @@ mutual
 
 -- the two grammars have the same plans
 pub same_plans : (ts : List Token) (b : Block) → (APart ts b → IsPlan ts b) × (IsPlan ts b → APart ts b)
-same_plans ts b = (λ x. subst (λ (z : List Token). IsPart z b []) (append_nil ts) (to_part x []), λ x. let r = from_part x in subst (λ (z : List Token). APart z b) (sym (append_nil r.0) ∙ sym r.1) r.2)
+same_plans ts b = (λ x. subst (λ (z : List Token). IsPart z b []) (append-nil ts) (to_part x []), λ x. let r = from_part x in subst (λ (z : List Token). APart z b) (sym (append-nil r.0) ∙ sym r.1) r.2)

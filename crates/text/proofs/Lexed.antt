@@ -1,5 +1,5 @@
 -- What is written is read back as the same tokens; and what the tokens of a text are like. Assumes nothing.
-use Rattle.std.proofs.Common.{◌≡◌, ℕ, zero, suc, ◌+◌, ◌-◌, ◌*◌, ◌^◌, ◌<◌, ◌≤◌, Bool, true, false, cond, not, ◌&&◌, ◌||◌, T, eqb, ltb, leb, ◌⊎◌, List, [], ◌∷◌, ◌++◌, length, get_or, replicate, codes, decimal, sym, refl, ap, ◌∙◌, subst, subst₂, inl, inr, append_assoc, append_nil, le_refl, arith, rules}
+use Rattle.std.proofs.Common.{◌≡◌, ℕ, zero, suc, ◌+◌, ◌-◌, ◌*◌, ◌^◌, ◌<◌, ◌≤◌, Bool, true, false, cond, not, ◌&&◌, ◌||◌, T, eqb, ltb, leb, ◌⊎◌, List, [], ◌∷◌, ◌++◌, length, get_or, replicate, codes, decimal, sym, refl, ap, ◌∙◌, subst, subst₂, inl, inr, append_assoc, append-nil, le_refl, arith, rules}
 use Rattle.std.proofs.lemmas.Bool.Decides.{nat_tests}
 use Rattle.std.specs.Str.{all_ascii_digits}
 use Rattle.std.proofs.lemmas.Str.Parse.{IsNumeralModel, numerals_by_fold}
@@ -17,7 +17,7 @@ both_nil (tokens ts) = refl
 pub both_none : (r : Lexed) → both r (tokens []) ≡ r
 unfolding both
 both_none wrong = refl
-both_none (tokens ts) = ap tokens (append_nil ts)
+both_none (tokens ts) = ap tokens (append-nil ts)
 
 pub both_assoc : (r s t : Lexed) → both (both r s) t ≡ both r (both s t)
 unfolding both
@@ -47,7 +47,7 @@ word_over w (b ∷ bs) a = let h : word_byte b ≡ false = grind (arith, nat_tes
 
 lex_word : (u w rest : List ℕ) → every word_byte w ≡ true → apart rest ≡ true → lex (word u) (w ++ rest) ≡ both (ended (u ++ w)) (lex (word []) rest)
 unfolding lex gives goes every
-lex_word u [] rest h a = rw append_nil (word_over u rest a)
+lex_word u [] rest h a = rw append-nil (word_over u rest a)
 lex_word u (b ∷ bs) rest h a =
     let hb : word_byte b ≡ true = and_left (word_byte b) (every word_byte bs) h in
     let ih : lex (word (u ++ (b ∷ []))) (bs ++ rest) ≡ both (ended ((u ++ (b ∷ [])) ++ bs)) (lex (word []) rest) = lex_word (u ++ (b ∷ [])) bs rest (and_right (word_byte b) (every word_byte bs) h) a in

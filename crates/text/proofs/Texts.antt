@@ -1,5 +1,5 @@
 -- The text of a plan: at most one plan, read exactly, and written so that it is read back. Assumes nothing.
-use Rattle.std.proofs.Common.{◌≡◌, ℕ, zero, suc, ◌+◌, ◌-◌, ◌*◌, ◌^◌, ◌<◌, ◌≤◌, max, Bool, true, false, cond, not, ◌&&◌, ◌||◌, T, eqb, ltb, leb, ◌⊎◌, List, [], ◌∷◌, ◌++◌, length, get_or, decimal, sym, refl, ap, ◌∙◌, subst, subst₂, inl, inr, append_assoc, append_nil, le_refl, arith, length-append}
+use Rattle.std.proofs.Common.{◌≡◌, ℕ, zero, suc, ◌+◌, ◌-◌, ◌*◌, ◌^◌, ◌<◌, ◌≤◌, max, Bool, true, false, cond, not, ◌&&◌, ◌||◌, T, eqb, ltb, leb, ◌⊎◌, List, [], ◌∷◌, ◌++◌, length, get_or, decimal, sym, refl, ap, ◌∙◌, subst, subst₂, inl, inr, append_assoc, append-nil, le_refl, arith, length-append}
 use Rattle.std.proofs.lemmas.Bool.Decides.{nat_tests}
 use Rattle.plans.specs.Plan.{Name, Expr, Lit, Var, Plus, Minus, Times, Less, Same, Not, Stmt, Set, Do, Sleep, Hear, If, While, Guard, Return, FailNow, Block, done, then}
 use Rattle.text.specs.Token.{Key, SET, DO, TRIES, PAUSE, SLEEP, HEAR, FOR, IF, ELSE, WHILE, GUARD, RETURN, FAIL, NOT, OPEN, CLOSE, BEGIN, END, COMMA, Op, PLUS, MINUS, TIMES, LESS, SAME, Token, number, variable, name, op, key, Got, fails, got}
@@ -281,7 +281,7 @@ mutual
 pub printed_is : (limit : ℕ) (b : Block) → Sayable b → length (text_of b) ≤ limit → IsText limit (text_of b) b
 printed_is limit b s l =
     let r : Lexes (text_of b ++ []) (tokens_of b) = lines_back 0 b s.fine s.names nothing_more in
-    let e : tokens_in (text_of b) ≡ tokens (tokens_of b) = rw append_nil at r.is in
+    let e : tokens_in (text_of b) ≡ tokens (tokens_of b) = rw append-nil at r.is in
     record { short = l; words = tokens_of b; lexed = e; plan = put_part_lem b [] s.fine s.flat; size = s.size }
 
 -- what is printed of a plan that was read is read as the same plan

@@ -1,5 +1,5 @@
 -- Reading a text in hexadecimal from its begin on.
-use Rattle.std.proofs.Common.{◌≡◌, ℕ, ◌+◌, ◌-◌, ◌*◌, ◌%◌, ◌<◌, ◌≤◌, Bool, true, false, cond, ◌&&◌, leb, List, [], ◌∷◌, ◌++◌, length, get_or, take, drop, Some, None, Option, sym, refl, ap, ◌∙◌, subst, append_assoc, append_nil, arith}
+use Rattle.std.proofs.Common.{◌≡◌, ℕ, ◌+◌, ◌-◌, ◌*◌, ◌%◌, ◌<◌, ◌≤◌, Bool, true, false, cond, ◌&&◌, leb, List, [], ◌∷◌, ◌++◌, length, get_or, take, drop, Some, None, Option, sym, refl, ap, ◌∙◌, subst, append_assoc, append-nil, arith}
 use Rattle.std.proofs.lemmas.Bool.Decides.{nat_tests}
 use Rattle.std.proofs.lemmas.List.{drop_more, drop_all, take_rest}
 use Rattle.wire.specs.Frames.{digit_of, pair_of, bytes_of, digits, is_in, frame_of}
@@ -48,7 +48,7 @@ none_low xs bs i h lt p q e = e ∙ ap (before bs) (next xs i lt ∙ (ap (λ a. 
 
 pub hex_end : (xs bs : List ℕ) (i : ℕ) → length xs ≤ 2 * i → bytes_of xs ≡ before bs (bytes_of (drop (2 * i) xs)) → bytes_of xs ≡ Some bs
 unfolding bytes_of
-hex_end xs bs i le e = e ∙ ap (λ l. before bs (bytes_of l)) (drop_all (2 * i) xs le) ∙ ap Some (append_nil bs)
+hex_end xs bs i le e = e ∙ ap (λ l. before bs (bytes_of l)) (drop_all (2 * i) xs le) ∙ ap Some (append-nil bs)
 
 pub digits_more : (xs : List ℕ) (i : ℕ) → i < length xs → 48 ≤ get_or xs i 0 → get_or xs i 0 ≤ 57 → digits (drop i xs) ≡ digits (drop (i + 1) xs)
 unfolding digits

@@ -1,7 +1,7 @@
 -- One turn of the loops that load and store words.
 -- Assumes nothing.
 use mathlib.Core.Path.{◌≡◌, refl, sym, ap, subst, ◌∙◌}
-use mathlib.Core.List.{List, [], ◌∷◌, ◌++◌, append_nil, append_assoc}
+use mathlib.Core.List.{List, [], ◌∷◌, ◌++◌, append-nil, append_assoc}
 use Prim.Native.Nat.{ℕ, zero, suc, ◌+◌, ◌-◌, ◌/◌, ◌%◌, ◌<◌, ◌≤◌}
 use native.Mathlib.Numerals.{add-one}
 use native.Mathlib.Omega.{arith}
@@ -51,5 +51,5 @@ module _ {S : Type 0} (step : S → Op → S → Type 0) where
   unfolding load_words
   load_all line i n out q {s} {s₀} h e leads =
       let none : n - i ≡ 0 = omega arith in
-      let whole : take i out ++ [] ≡ out = append_nil (take i out) ∙ take_all i out (omega arith) in
+      let whole : take i out ++ [] ≡ out = append-nil (take i out) ∙ take_all i out (omega arith) in
       subst (λ r. Did step q s₀ r s) whole (leads [] s (subst (λ k. Did step (load_words line i k) s [] s) (sym none) d_end))
