@@ -17,7 +17,7 @@ pub enum LinkError {
 
 // Writes these words.
 fn put_all<S: Sheet>(sheet: &mut S, words: &[u64]) -> Result<(), LinkError>
-    ensures { Written wrote room result sheet.old words.now sheet.new }
+    ensures { Written S.wrote S.room result sheet.old words.now sheet.new }
 {
     for word in words {
         if let Err(Full) = sheet.put(*word) {
@@ -54,7 +54,7 @@ fn behind(word: u64, end: u64, go: Context) -> Context
 // Copies words of the draft.
 fn copy<S: Sheet>(draft: &[u64], from: usize, count: usize, sheet: &mut S) -> Result<(), LinkError>
     requires small { length draft.now ≤ 16384 }
-    ensures { from + count ≤ length draft.now → Written wrote room result sheet.old (take count (drop from draft.now)) sheet.new }
+    ensures { from + count ≤ length draft.now → Written S.wrote S.room result sheet.old (take count (drop from draft.now)) sheet.new }
 {
     if count > draft.len() || from > draft.len() - count {
         return Err(LinkError::Damaged);
@@ -95,7 +95,7 @@ fn link_simple<S: Sheet>(
     requires small { length draft.now ≤ 16384 }
     requires whole { at + 4 ≤ length draft.now }
     requires low { deep ≤ 16384 }
-    ensures { (s : Stmt) (w : Way) (rest : List ℕ) → is_simple s ≡ true → drop at draft.now ≡ draft_stmt s ++ rest → go.way ≡ way_word w → Written wrote room result sheet.old (lay_stmt at s go.next w go.under deep) sheet.new }
+    ensures { (s : Stmt) (w : Way) (rest : List ℕ) → is_simple s ≡ true → drop at draft.now ≡ draft_stmt s ++ rest → go.way ≡ way_word w → Written S.wrote S.room result sheet.old (lay_stmt at s go.next w go.under deep) sheet.new }
 {
     let kind = draft[at];
     let size = draft[at + 2];
@@ -123,7 +123,7 @@ fn link_if<S: Sheet>(
     requires small { length draft.now ≤ 16384 }
     requires whole { at + 4 ≤ length draft.now }
     requires low { (go.under ≤ at + 1) × (deep ≤ at + 1) }
-    ensures { (e : Expr) (x y : Block) (w : Way) (rest : List ℕ) → drop at draft.now ≡ draft_stmt (If e x y) ++ rest → go.way ≡ way_word w → Written wrote room result sheet.old (lay_stmt at (If e x y) go.next w go.under deep) sheet.new }
+    ensures { (e : Expr) (x y : Block) (w : Way) (rest : List ℕ) → drop at draft.now ≡ draft_stmt (If e x y) ++ rest → go.way ≡ way_word w → Written S.wrote S.room result sheet.old (lay_stmt at (If e x y) go.next w go.under deep) sheet.new }
 {
     let to_else = draft[at + 1];
     let units = draft[at + 3];
@@ -151,7 +151,7 @@ fn link_while<S: Sheet>(
     requires small { length draft.now ≤ 16384 }
     requires whole { at + 4 ≤ length draft.now }
     requires low { (go.under ≤ at + 1) × (deep ≤ at + 1) }
-    ensures { (e : Expr) (x : Block) (w : Way) (rest : List ℕ) → drop at draft.now ≡ draft_stmt (While e x) ++ rest → go.way ≡ way_word w → Written wrote room result sheet.old (lay_stmt at (While e x) go.next w go.under deep) sheet.new }
+    ensures { (e : Expr) (x : Block) (w : Way) (rest : List ℕ) → drop at draft.now ≡ draft_stmt (While e x) ++ rest → go.way ≡ way_word w → Written S.wrote S.room result sheet.old (lay_stmt at (While e x) go.next w go.under deep) sheet.new }
 {
     let units = draft[at + 3];
     if units > 4096 {
@@ -189,7 +189,7 @@ fn link_guard<S: Sheet>(
     requires small { length draft.now ≤ 16384 }
     requires whole { at + 4 ≤ length draft.now }
     requires low { (go.under ≤ at + 1) × (deep ≤ at + 1) }
-    ensures { (x y : Block) (w : Way) (rest : List ℕ) → drop at draft.now ≡ draft_stmt (Guard x y) ++ rest → go.way ≡ way_word w → Written wrote room result sheet.old (lay_stmt at (Guard x y) go.next w go.under deep) sheet.new }
+    ensures { (x y : Block) (w : Way) (rest : List ℕ) → drop at draft.now ≡ draft_stmt (Guard x y) ++ rest → go.way ≡ way_word w → Written S.wrote S.room result sheet.old (lay_stmt at (Guard x y) go.next w go.under deep) sheet.new }
 {
     let to_other = draft[at + 1];
     if to_other == 0 || to_other > 4096 {
@@ -226,7 +226,7 @@ fn link_statement<S: Sheet>(
     requires small { length draft.now ≤ 16384 }
     requires whole { at + 4 ≤ length draft.now }
     requires low { (go.under ≤ at + 1) × (deep ≤ at + 1) }
-    ensures { (s : Stmt) (w : Way) (rest : List ℕ) → drop at draft.now ≡ draft_stmt s ++ rest → go.way ≡ way_word w → Written wrote room result sheet.old (lay_stmt at s go.next w go.under deep) sheet.new }
+    ensures { (s : Stmt) (w : Way) (rest : List ℕ) → drop at draft.now ≡ draft_stmt s ++ rest → go.way ≡ way_word w → Written S.wrote S.room result sheet.old (lay_stmt at s go.next w go.under deep) sheet.new }
 {
     let kind = draft[at];
     if kind == kinds::IF {
@@ -252,7 +252,7 @@ fn link_part<S: Sheet>(
     requires small { length draft.now ≤ 16384 }
     requires near { at ≤ 65536 }
     requires low { go.under ≤ at }
-    ensures { (b : Block) (w : Way) (rest : List ℕ) → drop at draft.now ≡ draft_of b ++ rest → go.way ≡ way_word w → WrittenTo wrote room result sheet.old (lay at b go.next w go.under) (at + 4 * size_of b) sheet.new }
+    ensures { (b : Block) (w : Way) (rest : List ℕ) → drop at draft.now ≡ draft_of b ++ rest → go.way ≡ way_word w → WrittenTo S.wrote S.room result sheet.old (lay at b go.next w go.under) (at + 4 * size_of b) sheet.new }
 {
     if at + 4 > draft.len() {
         return Err(LinkError::Damaged);
@@ -279,7 +279,7 @@ fn link_part<S: Sheet>(
 
 // Writes the flat form of a draft. Words that are no draft of a plan are damaged, wherever that is seen.
 pub fn link<S: Sheet>(draft: &[u64], sheet: &mut S) -> Result<(), LinkError>
-    ensures { (b : Block) → size_of b ≤ 4096 → draft.now ≡ draft_of b → Written wrote room result sheet.old (laid b) sheet.new }
+    ensures { (b : Block) → size_of b ≤ 4096 → draft.now ≡ draft_of b → Written S.wrote S.room result sheet.old (laid b) sheet.new }
 {
     if draft.len() < 4 || draft.len() > kinds::MOST_WORDS {
         return Err(LinkError::Damaged);

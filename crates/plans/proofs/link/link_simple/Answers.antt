@@ -7,14 +7,14 @@ use Rattle.plans.proofs.link.link_simple.Goals as goal
 pub returns-then-kind-gt-FAIL : goal.returns-then-kind-gt-FAIL
 returns-then-kind-gt-FAIL g c = λ s w rest h d k. let x = simple_good c.args.draft.now c.args.at s rest c.requires.small d in omega (arith, c.then-kind-gt-FAIL.either)
 
-pub returns-in-err-put-all : goal.returns-in-err-put-all
-returns-in-err-put-all g c = λ s w rest h d k.
-    let p = err_from_is_err_and c.from-residual.result c.from-residual.ensures.1 in
+pub returns-in_err-put_all : goal.returns-in_err-put_all
+returns-in_err-put_all g c = λ s w rest h d k.
+    let p = err_from_is_err_and c.from_residual.result c.from_residual.ensures.1 in
     let l = lay_stmt_length s c.args.at c.args.go.next w c.args.go.under c.args.deep in
     let m = size_at_least s in
-    rw (p.1, p.2) (written_short g.S.Sheet.wrote _ _ _ _ _ _ _ (omega arith) c.in-err-put-all.ensures)
+    rw (p.1, p.2) (written_short g.S.Sheet.wrote _ _ _ _ _ _ _ (omega arith) c.in_err-put_all.ensures)
 
 pub returns : goal.returns
 returns g c = λ s w rest h d k.
-    simple_linked g.S.Sheet.wrote g.S.Sheet.room c.args.draft.now c.args.at s w rest c.args.go.next c.args.go.way c.args.go.under c.args.deep c.next-word.result c.last-word.result _ _ _ c.copy.result
-    h d k c.next-word.ensures c.last-word.ensures c.in-ok-put-all.ensures c.copy.ensures
+    simple_linked g.S.Sheet.wrote g.S.Sheet.room c.args.draft.now c.args.at s w rest c.args.go.next c.args.go.way c.args.go.under c.args.deep c.next_word.result c.last_word.result _ _ _ c.copy.result
+    h d k c.next_word.ensures c.last_word.ensures c.in_ok-put_all.ensures c.copy.ensures
