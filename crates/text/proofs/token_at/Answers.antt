@@ -10,39 +10,39 @@ returns-then-text-from c =
 pub returns-then-text-start : goal.returns-then-text-start
 returns-then-text-start c =
     record {
-      ahead = sym c.past-blanks-start.ensures.same ∙ sym (both_nil _);
-      start = c.past-blanks-start.ensures.same;
-      forth = record { after = c.past-blanks-start.ensures.forth; order = omega arith; within = λ h. c.past-blanks-start.ensures.within; moves = λ h. absurd (never_stops (sym h)); ends = λ h. c.if-text-start.true; small = tt };
+      ahead = sym c.past_blanks-start.ensures.same ∙ sym (both_nil _);
+      start = c.past_blanks-start.ensures.same;
+      forth = record { after = c.past_blanks-start.ensures.forth; order = omega arith; within = λ h. c.past_blanks-start.ensures.within; moves = λ h. absurd (never_stops (sym h)); ends = λ h. c.if-text-start.true; small = tt };
     }
 
-pub returns-then-not-word-byte : goal.returns-then-not-word-byte
-returns-then-not-word-byte c =
+pub returns-then-not-word_byte : goal.returns-then-not-word_byte
+returns-then-not-word_byte c =
     record {
-      ahead = sign_found c.args.text.now c.args.from c.past-blanks-start.result _ c.if-text-start.false c.past-blanks-start.ensures.same (sym c.if-not-word-byte.ensures)
-          (c.past-blanks-start.ensures.past c.if-text-start.false) (c.sign-of.ensures.means _);
-      start = c.past-blanks-start.ensures.same;
+      ahead = sign_found c.args.text.now c.args.from c.past_blanks-start.result _ c.if-text-start.false c.past_blanks-start.ensures.same (sym c.if-not-word_byte.ensures)
+          (c.past_blanks-start.ensures.past c.if-text-start.false) (c.sign_of.ensures.means _);
+      start = c.past_blanks-start.ensures.same;
       forth = record {
-        after = c.past-blanks-start.ensures.forth;
+        after = c.past_blanks-start.ensures.forth;
         order = omega arith;
         within = λ h. omega arith;
         moves = λ h. omega arith;
-        ends = λ h. absurd (never_stops (sym c.sign-of.ensures.plain.here ∙ h));
-        small = c.sign-of.ensures.plain.small;
+        ends = λ h. absurd (never_stops (sym c.sign_of.ensures.plain.here ∙ h));
+        small = c.sign_of.ensures.plain.small;
       };
     }
 
 pub returns : goal.returns
 returns c =
     record {
-      ahead = word_found c.args.text.now c.args.from c.past-blanks-start.result c.past-word-next.result _ c.past-word-next.ensures.forth c.past-word-next.ensures.within c.past-blanks-start.ensures.same
-          c.past-word-next.ensures.same c.word-of.ensures.means;
-      start = c.past-blanks-start.ensures.same;
+      ahead = word_found c.args.text.now c.args.from c.past_blanks-start.result c.past_word-next.result _ c.past_word-next.ensures.forth c.past_word-next.ensures.within c.past_blanks-start.ensures.same
+          c.past_word-next.ensures.same c.word_of.ensures.means;
+      start = c.past_blanks-start.ensures.same;
       forth = record {
-        after = c.past-blanks-start.ensures.forth;
+        after = c.past_blanks-start.ensures.forth;
         order = omega arith;
-        within = λ h. c.past-word-next.ensures.within;
-        moves = λ h. c.past-word-next.ensures.forth;
-        ends = λ h. absurd (never_stops (sym c.word-of.ensures.plain.here ∙ h));
-        small = c.word-of.ensures.plain.small;
+        within = λ h. c.past_word-next.ensures.within;
+        moves = λ h. c.past_word-next.ensures.forth;
+        ends = λ h. absurd (never_stops (sym c.word_of.ensures.plain.here ∙ h));
+        small = c.word_of.ensures.plain.small;
       };
     }

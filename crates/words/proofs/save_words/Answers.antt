@@ -6,6 +6,6 @@ use Rattle.words.proofs.save_words.Goals as goal
 pub returns : goal.returns
 unfolding save_words
 returns g c =
-    let d : Did g.D.Device.step (save_words c.args.line c.args.count c.args.words.now) c.args.dev.now tt c.push-lines.new.dev =
-    did_bind (λ x. push_lines c.args.line c.args.count) c.store-words.ensures.did c.push-lines.ensures.did in
+    let d : Did g.D.Device.step (save_words c.args.line c.args.count c.args.words.now) c.args.dev.now tt c.push_lines.new.dev =
+    did_bind (λ x. push_lines c.args.line c.args.count) c.store_words.ensures.did c.push_lines.ensures.did in
     record { did = d; stays = did_size g.met.D.Device.stays d }

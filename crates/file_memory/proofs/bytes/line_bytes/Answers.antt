@@ -9,6 +9,6 @@ loop-i-preserved c =
     let ws = vec_items c.args.words.now in
     let byte : ℕ → ℕ = λ k. get_or (bytes_of (get_or ws (c.args.start + k / 8) 0)) (k % 8) 0 in
     laid_more c.loop-i.bytes c.loop-i.i _ byte c.loop-i.invariant.0 (omega arith)
-    (ap (λ ys. get_or ys (c.loop-i.i % 8) 0) c.to-be-bytes-word.ensures
+    (ap (λ ys. get_or ys (c.loop-i.i % 8) 0) c.to_be_bytes-word.ensures
     ∙ ap (λ w. get_or (bytes_of w) (c.loop-i.i % 8) 0) (get_or_read ws (c.args.start + c.loop-i.i / 8) c.index.result.now (omega arith) c.index.ensures 0))
     c.loop-i.invariant.1

@@ -6,10 +6,10 @@ pub loop-i-preserved : goal.loop-i-preserved
 loop-i-preserved c =
     let xs = vec_items c.args.journal.now in
     let x = c.index.result.now in (
-      sees_turn xs c.loop-i.i x (omega arith) c.index.ensures (vec_items c.args.lasts.now) (vec_items c.loop-i.sees) (vec_items c.set-number.new.numbers)
-          (c.set-number.ensures ∙ ap (λ v. set (vec_items c.loop-i.sees) x.place v) c.number-at.ensures)
+      sees_turn xs c.loop-i.i x (omega arith) c.index.ensures (vec_items c.args.lasts.now) (vec_items c.loop-i.sees) (vec_items c.set_number.new.numbers)
+          (c.set_number.ensures ∙ ap (λ v. set (vec_items c.loop-i.sees) x.place v) c.number_at.ensures)
           ∙ c.loop-i.invariant.0,
-      counts_turn xs c.loop-i.i x (omega arith) c.index.ensures (vec_items c.loop-i.counts) (vec_items c.set-number-in-loop-i.new.numbers) c.set-number-in-loop-i.ensures
+      counts_turn xs c.loop-i.i x (omega arith) c.index.ensures (vec_items c.loop-i.counts) (vec_items c.set_number-in-loop-i.new.numbers) c.set_number-in-loop-i.ensures
           ∙ c.loop-i.invariant.1,
     )
 

@@ -2,32 +2,32 @@ use Rattle.std.proofs.Common.{◌≡◌, ◌+◌, ◌≤◌, length, take, drop,
 use Rattle.lines.specs.Walks.{settling, settle}
 use Rattle.lines.proofs.Turns.{settle_gone, settle_stays, settle_end, settle_moved}
 use Rattle.lines.proofs.journal.settle_all.Goals as goal
-use Rattle.lines.proofs.journal.settle_all.Goals.{then-not-settle-one, else-not-settle-one}
+use Rattle.lines.proofs.journal.settle_all.Goals.{then-not-settle_one, else-not-settle_one}
 
 pub loop-i-preserved : goal.loop-i-preserved
 loop-i-preserved c =
     let xs = vec_items c.loop-i.journal in
-    let ys = vec_items c.if-not-settle-one.journal in
+    let ys = vec_items c.if-not-settle_one.journal in
     let x = c.index-store.result.now in
-    elim c.if-not-settle-one.branch [
-      | then-not-settle-one w ↦
+    elim c.if-not-settle_one.branch [
+      | then-not-settle_one w ↦
           let moved : ys ≡ set xs c.loop-i.staying x = ap vec_items w.journal-is in
           let same : length ys ≡ length xs = ap length moved ∙ length-set xs c.loop-i.staying x in (
             omega (arith, w.staying-is),
             omega (arith, same, c.loop-i.invariant.1),
-            settle_moved (c.loop-i.i + 1) _ _ ys ys (vec_items c.settle-one.new.lasts) (vec_items c.settle-one.new.counts) (vec_items c.settle-one.new.pushed) w.staying-is (λ i. ys)
+            settle_moved (c.loop-i.i + 1) _ _ ys ys (vec_items c.settle_one.new.lasts) (vec_items c.settle_one.new.counts) (vec_items c.settle_one.new.pushed) w.staying-is (λ i. ys)
                 ∙ settle_stays xs c.loop-i.i x (omega arith) c.index-store.ensures c.loop-i.staying (vec_items c.loop-i.lasts) (vec_items c.loop-i.counts) (vec_items c.loop-i.pushed)
-                _ _ _ ys c.settle-one.result c.settle-one.ensures.done c.settle-one.ensures.lasts c.settle-one.ensures.counts c.settle-one.ensures.pushed
-                w.if-not-settle-one.true c.loop-i.invariant.0 moved
+                _ _ _ ys c.settle_one.result c.settle_one.ensures.done c.settle_one.ensures.lasts c.settle_one.ensures.counts c.settle_one.ensures.pushed
+                w.if-not-settle_one.true c.loop-i.invariant.0 moved
                 ∙ c.loop-i.invariant.2,
           )
-      | else-not-settle-one w ↦ (
+      | else-not-settle_one w ↦ (
         omega (arith, w.staying-is, c.loop-i.invariant.0),
         ap vec_len w.journal-is ∙ c.loop-i.invariant.1,
-        settle_moved (c.loop-i.i + 1) _ _ ys xs (vec_items c.settle-one.new.lasts) (vec_items c.settle-one.new.counts) (vec_items c.settle-one.new.pushed) w.staying-is (ap vec_items w.journal-is)
+        settle_moved (c.loop-i.i + 1) _ _ ys xs (vec_items c.settle_one.new.lasts) (vec_items c.settle_one.new.counts) (vec_items c.settle_one.new.pushed) w.staying-is (ap vec_items w.journal-is)
             ∙ settle_gone xs c.loop-i.i x (omega arith) c.index-store.ensures c.loop-i.staying (vec_items c.loop-i.lasts) (vec_items c.loop-i.counts) (vec_items c.loop-i.pushed)
-            _ _ _ c.settle-one.result c.settle-one.ensures.done c.settle-one.ensures.lasts c.settle-one.ensures.counts c.settle-one.ensures.pushed
-            w.if-not-settle-one.false
+            _ _ _ c.settle_one.result c.settle_one.ensures.done c.settle_one.ensures.lasts c.settle_one.ensures.counts c.settle_one.ensures.pushed
+            w.if-not-settle_one.false
             ∙ c.loop-i.invariant.2,
       )
     ]

@@ -3,4 +3,4 @@ use Rattle.runs.proofs.Loops.{comes_to}
 use Rattle.runs.proofs.flow.run.Goals as goal
 
 pub returns : goal.returns
-returns c = record { flat = c.go-on.ensures; meant = λ x y empty k. comes_to (length c.args.stack.now) c.args.words.now c.args.time c.args.place c.args.vars.now c.go-on.new.vars c.go-on.result x y c.requires.all c.go-on.ensures empty k }
+returns c = record { flat = c.go_on.ensures; meant = λ x y empty k. comes_to (length c.args.stack.now) c.args.words.now c.args.time c.args.place c.args.vars.now c.go_on.new.vars c.go_on.result x y c.requires.all c.go_on.ensures empty k }
