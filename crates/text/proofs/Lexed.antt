@@ -1,10 +1,10 @@
 -- What is written is read back as the same tokens; and what the tokens of a text are like. Assumes nothing.
-use Rattle.std.proofs.Common.{◌≡◌, ℕ, zero, suc, ◌+◌, ◌-◌, ◌*◌, ◌^◌, ◌<◌, ◌≤◌, Bool, true, false, cond, not, ◌&&◌, ◌||◌, T, eqb, ltb, leb, ◌⊎◌, List, [], ◌∷◌, ◌++◌, length, get_or, replicate, codes, decimal, sym, refl, ap, ◌∙◌, subst, subst₂, inl, inr, append_assoc, append-nil, le_refl, arith, rules}
+use Rattle.std.proofs.Common.{◌≡◌, ℕ, zero, suc, ◌<◌, Bool, true, false, cond, not, ◌&&◌, ◌||◌, eqb, ltb, leb, List, [], ◌∷◌, ◌++◌, length, get_or, replicate, decimal, sym, refl, ap, ◌∙◌, subst, append_assoc, append-nil, arith, rules}
 use Rattle.std.proofs.lemmas.Bool.Decides.{nat_tests}
 use Rattle.std.specs.Str.{all_ascii_digits}
 use Rattle.std.proofs.lemmas.Str.Parse.{IsNumeralModel, numerals_by_fold}
-use Rattle.std.proofs.lemmas.Fmt.{digits_decimal, digits_value-decimal, decimal_nonempty, first_decimal, decimal_digit, length-decimal-le}
-use Rattle.plans.specs.Plan.{Name, every, same_name, word_ok, name_ok}
+use Rattle.std.proofs.lemmas.Fmt.{digits_decimal, digits_value-decimal, decimal_nonempty, first_decimal, decimal_digit}
+use Rattle.plans.specs.Plan.{every, same_name, word_ok, name_ok}
 use Rattle.text.specs.Token.{Key, SET, DO, TRIES, PAUSE, SLEEP, HEAR, FOR, IF, ELSE, WHILE, GUARD, RETURN, FAIL, NOT, OPEN, CLOSE, BEGIN, END, COMMA, Op, PLUS, MINUS, TIMES, LESS, SAME, Token, number, variable, name, op, key}
 use Rattle.text.specs.Lexer.{spell, spell_op, Lexed, wrong, tokens, both, or_else, is_wrong, one, value_from, top, number_of, key_in, key_of, name_of, plain_digits, variable_of, word_token, ended, word_byte, sign_at, Mode, word, remark, goes, gives, lex, tokens_in, token_ok, spelled}
 use Rattle.text.proofs.Printed.{and_left, and_right, and_both}

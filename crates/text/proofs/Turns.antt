@@ -1,10 +1,8 @@
 -- The turns of the loops that read a text's bytes. Assumes nothing.
-use Rattle.std.proofs.Common.{◌≡◌, ℕ, zero, suc, ◌+◌, ◌-◌, ◌*◌, ◌<◌, ◌≤◌, Bool, true, false, cond, not, ◌&&◌, ◌||◌, T, eqb, ltb, leb, ◌⊎◌, List, [], ◌∷◌, ◌++◌, length, get_or, take, drop, sym, refl, ap, ◌∙◌, subst, subst₂, inl, inr, append_assoc, append-nil, le_refl, add-one, arith, length-drop, drop-cons}
+use Rattle.std.proofs.Common.{◌≡◌, ℕ, suc, ◌+◌, ◌-◌, ◌<◌, ◌≤◌, Bool, true, false, cond, not, eqb, List, [], ◌∷◌, ◌++◌, length, get_or, take, drop, sym, refl, ap, ◌∙◌, le_refl, add-one, arith, length-drop, drop-cons}
 use Rattle.std.proofs.lemmas.Bool.Decides.{nat_tests}
 use Rattle.std.proofs.lemmas.List.{drop_all, take_more, get_or-drop}
-use Rattle.plans.specs.Plan.{every}
-use Rattle.text.specs.Token.{Token}
-use Rattle.text.specs.Lexer.{Lexed, wrong, tokens, both, ended, word_byte, sign_at, Mode, word, remark, goes, gives, lex, tokens_in}
+use Rattle.text.specs.Lexer.{both, ended, word_byte, sign_at, word, remark, goes, gives, lex, tokens_in}
 use Rattle.text.specs.Gaps.{goes_on, in_remark, mode_of}
 use Rattle.text.proofs.Lexed.{both_nil, word_stop, word_end}
 
