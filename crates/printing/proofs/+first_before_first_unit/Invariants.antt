@@ -1,8 +1,8 @@
 use Rattle.std.proofs.Common.{◌+◌, ◌*◌}
 use Rattle.printing.proofs.+first_before_first_unit.Given as goal
 
-abbrev pub decreases-first-unit : goal.decreases-first-unit
-decreases-first-unit l = 2 * l.root + 1
+abbrev pub decreases-first_unit : goal.decreases-first_unit
+decreases-first_unit l = 2 * l.root + 1
 
-abbrev pub decreases-first-before : goal.decreases-first-before
-decreases-first-before l = 2 * l.root
+abbrev pub decreases-first_before : goal.decreases-first_before
+decreases-first_before l = 2 * l.root

@@ -11,19 +11,19 @@ returns-then-end-lt4 t c = λ es a rest g h e n. let x = last_arg c.args.words.n
 
 pub returns-then-count-eq1 : goal.returns-then-count-eq1
 returns-then-count-eq1 t c = λ es a rest g h e n.
-    one_arg c.args.words.now c.args.end c.args.count es a (last_arg c.args.words.now c.args.end c.args.count es a rest (omega arith) h e n) c.print-expr.result _ _ c.args.low g c.if-count-eq1.true c.print-expr.ensures
+    one_arg c.args.words.now c.args.end c.args.count es a (last_arg c.args.words.now c.args.end c.args.count es a rest (omega arith) h e n) c.print_expr.result _ _ c.args.low g c.if-count-eq1.true c.print_expr.ensures
 
-pub returns-in-default : goal.returns-in-default
-returns-in-default t c = λ es a rest g h e n. let x = last_arg c.args.words.now c.args.end c.args.count es a rest (omega arith) h e n in c.in-default.ensures x.last x.root
+pub returns-in_default : goal.returns-in_default
+returns-in_default t c = λ es a rest g h e n. let x = last_arg c.args.words.now c.args.end c.args.count es a rest (omega arith) h e n in c.in_default.ensures x.last x.root
 
-pub returns-in-err-print-args : goal.returns-in-err-print-args
-returns-in-err-print-args t c = λ es a rest g h e n.
+pub returns-in_err-print_args : goal.returns-in_err-print_args
+returns-in_err-print_args t c = λ es a rest g h e n.
     let x = last_arg c.args.words.now c.args.end c.args.count es a rest (omega arith) h e n in
-    wrote_exit c.from-residual.result c.in-err-print-args.field-0.0 _ _ _ c.from-residual.ensures.1
-    (fine_wrote c.in-err-print-args.field-0.0 _ _ _ (c.in-err-print-args.ensures x.front a x.rest g x.stands (c.in-Some.ensures.1 x.last x.root ∙ x.begins) (let f = x.few in omega arith)))
+    wrote_exit c.from_residual.result c.in_err-print_args.field-0.0 _ _ _ c.from_residual.ensures.1
+    (fine_wrote c.in_err-print_args.field-0.0 _ _ _ (c.in_err-print_args.ensures x.front a x.rest g x.stands (c.in-Some.ensures.1 x.last x.root ∙ x.begins) (let f = x.few in omega arith)))
 
 pub returns : goal.returns
 returns t c = λ es a rest g h e n.
     let x = last_arg c.args.words.now c.args.end c.args.count es a rest (omega arith) h e n in
-    more_args c.args.words.now c.args.end c.args.count es a x c.print-expr-2.result _ _ c.in-Some.first _ _ (c.in-Some.ensures.1 x.last x.root) c.if-count-eq1.false
-    (c.in-ok-print-args.ensures x.front a x.rest g x.stands (c.in-Some.ensures.1 x.last x.root ∙ x.begins) (let f = x.few in omega arith)) c.in-ok-put.ensures c.print-expr-2.ensures
+    more_args c.args.words.now c.args.end c.args.count es a x c.print_expr-2.result _ _ c.in-Some.first _ _ (c.in-Some.ensures.1 x.last x.root) c.if-count-eq1.false
+    (c.in_ok-print_args.ensures x.front a x.rest g x.stands (c.in-Some.ensures.1 x.last x.root ∙ x.begins) (let f = x.few in omega arith)) c.in_ok-put.ensures c.print_expr-2.ensures

@@ -7,205 +7,205 @@ use Rattle.printing.proofs.Parts.{stmt_arm, no_kind, none_of, k_set, k_do, k_sle
 use Rattle.printing.proofs.Forks.{fail_arm, if_at_lem, while_at_lem, guard_at_lem, if_said, while_said, guard_said, braced_said, if_first, if_other, while_first, guard_first, guard_other, hear_word}
 use Rattle.printing.proofs.+print_braced_print_guard_print_if_print_part_print_statement_print_while.Goals as goal
 
-pub print-statement-returns-in-1 : goal.print-statement-returns-in-1
+pub print_statement-returns-in-1 : goal.print_statement-returns-in-1
 unfolding told
-print-statement-returns-in-1 t c =
+print_statement-returns-in-1 t c =
     record {
-      forth = c.print-set.ensures.forth;
-      text = λ d s rest q x ok. stmt_arm c.args.words.now c.args.at c.args.depth c.print-set.result _ _ _ k_set c.in-1.is c.in-ok-put-indent.ensures d s rest q x ok
-          (λ v e y k. c.print-set.ensures.text d v e rest y);
+      forth = c.print_set.ensures.forth;
+      text = λ d s rest q x ok. stmt_arm c.args.words.now c.args.at c.args.depth c.print_set.result _ _ _ k_set c.in-1.is c.in_ok-put_indent.ensures d s rest q x ok
+          (λ v e y k. c.print_set.ensures.text d v e rest y);
     }
 
-pub print-statement-returns-in-2 : goal.print-statement-returns-in-2
+pub print_statement-returns-in-2 : goal.print_statement-returns-in-2
 unfolding told
-print-statement-returns-in-2 t c =
+print_statement-returns-in-2 t c =
     record {
-      forth = c.print-do.ensures.forth;
-      text = λ d s rest q x ok. stmt_arm c.args.words.now c.args.at c.args.depth c.print-do.result _ _ _ k_do c.in-2.is c.in-ok-put-indent.ensures d s rest q x ok
-          (λ v k es n p y h. c.print-do.ensures.text d v k es n p rest y);
+      forth = c.print_do.ensures.forth;
+      text = λ d s rest q x ok. stmt_arm c.args.words.now c.args.at c.args.depth c.print_do.result _ _ _ k_do c.in-2.is c.in_ok-put_indent.ensures d s rest q x ok
+          (λ v k es n p y h. c.print_do.ensures.text d v k es n p rest y);
     }
 
-pub print-statement-returns-in-3 : goal.print-statement-returns-in-3
+pub print_statement-returns-in-3 : goal.print_statement-returns-in-3
 unfolding told
-print-statement-returns-in-3 t c =
+print_statement-returns-in-3 t c =
     record {
-      forth = IfOk-weaker c.print-line.result _ _ (λ p h. omega arith) c.print-line.ensures.forth;
-      text = λ d s rest q x ok. stmt_arm c.args.words.now c.args.at c.args.depth c.print-line.result _ _ _ k_sleep c.in-3.is c.in-ok-put-indent.ensures d s rest q x ok
-          (λ e y k. c.print-line.ensures.text e rest (sleep_value c.args.words.now c.args.at e rest y) y.stop);
+      forth = IfOk-weaker c.print_line.result _ _ (λ p h. omega arith) c.print_line.ensures.forth;
+      text = λ d s rest q x ok. stmt_arm c.args.words.now c.args.at c.args.depth c.print_line.result _ _ _ k_sleep c.in-3.is c.in_ok-put_indent.ensures d s rest q x ok
+          (λ e y k. c.print_line.ensures.text e rest (sleep_value c.args.words.now c.args.at e rest y) y.stop);
     }
 
-pub print-statement-returns-in-4 : goal.print-statement-returns-in-4
+pub print_statement-returns-in-4 : goal.print_statement-returns-in-4
 unfolding told
-print-statement-returns-in-4 t c =
+print_statement-returns-in-4 t c =
     record {
-      forth = c.print-hear.ensures.forth;
-      text = λ d s rest q x ok. stmt_arm c.args.words.now c.args.at c.args.depth c.print-hear.result _ _ _ k_hear c.in-4.is c.in-ok-put-indent.ensures d s rest q x ok
-          (λ v w n e y k. c.print-hear.ensures.text d v w n e rest y (hear_word v w n e k));
+      forth = c.print_hear.ensures.forth;
+      text = λ d s rest q x ok. stmt_arm c.args.words.now c.args.at c.args.depth c.print_hear.result _ _ _ k_hear c.in-4.is c.in_ok-put_indent.ensures d s rest q x ok
+          (λ v w n e y k. c.print_hear.ensures.text d v w n e rest y (hear_word v w n e k));
     }
 
-pub print-statement-returns-in-5 : goal.print-statement-returns-in-5
+pub print_statement-returns-in-5 : goal.print_statement-returns-in-5
 unfolding told
-print-statement-returns-in-5 t c =
+print_statement-returns-in-5 t c =
     record {
-      forth = c.print-if.ensures.forth;
-      text = λ d s rest q x ok. stmt_arm c.args.words.now c.args.at c.args.depth c.print-if.result _ _ _ k_if c.in-5.is c.in-ok-put-indent.ensures d s rest q x ok
-          (λ e a b y k. c.print-if.ensures.text d e a b rest q y (if_first e a b k) (if_other e a b k));
+      forth = c.print_if.ensures.forth;
+      text = λ d s rest q x ok. stmt_arm c.args.words.now c.args.at c.args.depth c.print_if.result _ _ _ k_if c.in-5.is c.in_ok-put_indent.ensures d s rest q x ok
+          (λ e a b y k. c.print_if.ensures.text d e a b rest q y (if_first e a b k) (if_other e a b k));
     }
 
-pub print-statement-returns-in-6 : goal.print-statement-returns-in-6
+pub print_statement-returns-in-6 : goal.print_statement-returns-in-6
 unfolding told
-print-statement-returns-in-6 t c =
+print_statement-returns-in-6 t c =
     record {
-      forth = c.print-while.ensures.forth;
-      text = λ d s rest q x ok. stmt_arm c.args.words.now c.args.at c.args.depth c.print-while.result _ _ _ k_while c.in-6.is c.in-ok-put-indent.ensures d s rest q x ok
-          (λ e a y k. c.print-while.ensures.text d e a rest q y (while_first e a k));
+      forth = c.print_while.ensures.forth;
+      text = λ d s rest q x ok. stmt_arm c.args.words.now c.args.at c.args.depth c.print_while.result _ _ _ k_while c.in-6.is c.in_ok-put_indent.ensures d s rest q x ok
+          (λ e a y k. c.print_while.ensures.text d e a rest q y (while_first e a k));
     }
 
-pub print-statement-returns-in-8 : goal.print-statement-returns-in-8
+pub print_statement-returns-in-8 : goal.print_statement-returns-in-8
 unfolding told
-print-statement-returns-in-8 t c =
+print_statement-returns-in-8 t c =
     record {
-      forth = c.print-guard.ensures.forth;
-      text = λ d s rest q x ok. stmt_arm c.args.words.now c.args.at c.args.depth c.print-guard.result _ _ _ k_guard c.in-8.is c.in-ok-put-indent.ensures d s rest q x ok
-          (λ a b y k. c.print-guard.ensures.text d a b rest q y (guard_first a b k) (guard_other a b k));
+      forth = c.print_guard.ensures.forth;
+      text = λ d s rest q x ok. stmt_arm c.args.words.now c.args.at c.args.depth c.print_guard.result _ _ _ k_guard c.in-8.is c.in_ok-put_indent.ensures d s rest q x ok
+          (λ a b y k. c.print_guard.ensures.text d a b rest q y (guard_first a b k) (guard_other a b k));
     }
 
-pub print-statement-returns-in-10 : goal.print-statement-returns-in-10
+pub print_statement-returns-in-10 : goal.print_statement-returns-in-10
 unfolding told
-print-statement-returns-in-10 t c =
+print_statement-returns-in-10 t c =
     record {
-      forth = IfOk-weaker c.print-line-in-10.result _ _ (λ p h. omega arith) c.print-line-in-10.ensures.forth;
-      text = λ d s rest q x ok. stmt_arm c.args.words.now c.args.at c.args.depth c.print-line-in-10.result _ _ _ k_return c.in-10.is c.in-ok-put-indent.ensures d s rest q x ok
-          (λ e y k. c.print-line-in-10.ensures.text e rest (return_value c.args.words.now c.args.at e rest y) y.stop);
+      forth = IfOk-weaker c.print_line-in-10.result _ _ (λ p h. omega arith) c.print_line-in-10.ensures.forth;
+      text = λ d s rest q x ok. stmt_arm c.args.words.now c.args.at c.args.depth c.print_line-in-10.result _ _ _ k_return c.in-10.is c.in_ok-put_indent.ensures d s rest q x ok
+          (λ e y k. c.print_line-in-10.ensures.text e rest (return_value c.args.words.now c.args.at e rest y) y.stop);
     }
 
-pub print-statement-returns-in-ok-put : goal.print-statement-returns-in-ok-put
+pub print_statement-returns-in_ok-put-in-11 : goal.print_statement-returns-in_ok-put-in-11
 unfolding told
-print-statement-returns-in-ok-put t c =
+print_statement-returns-in_ok-put-in-11 t c =
     record {
       forth = omega arith;
-      text = λ d s rest q x ok. fail_arm c.args.words.now c.args.at c.args.depth _ _ _ c.in-11.is c.in-ok-put-indent.ensures c.in-ok-put.ensures d s rest q x ok;
+      text = λ d s rest q x ok. fail_arm c.args.words.now c.args.at c.args.depth _ _ _ c.in-11.is c.in_ok-put_indent.ensures c.in_ok-put-in-11.ensures d s rest q x ok;
     }
 
-pub print-statement-returns-in-default : goal.print-statement-returns-in-default
-print-statement-returns-in-default t c =
+pub print_statement-returns-in_default : goal.print_statement-returns-in_default
+print_statement-returns-in_default t c =
     record { forth = tt; text = λ d s rest q x ok. no_kind c.args.words.now c.args.at s rest x (none_of _ (omega arith) (omega arith) (omega arith) (omega arith) (omega arith) (omega arith) (omega arith) (omega arith) (omega arith)) }
 
-pub print-if-returns-in-err-first : goal.print-if-returns-in-err-first
-print-if-returns-in-err-first t c =
+pub print_if-returns-in_err-first : goal.print_if-returns-in_err-first
+print_if-returns-in_err-first t c =
     record {
-      forth = IfOk-from_err c.from-residual-in-err-first.result _ c.from-residual-in-err-first.ensures.0;
-      text = λ d e a b rest q x ha hb. let y = if_at_lem c.args.words.now c.args.at e a b rest x in spoke_exit c.from-residual-in-err-first.result c.in-err-first.field-0.0 _ _ _ _ _ c.from-residual-in-err-first.ensures.1
-          (fine_spoke c.in-err-first.field-0.0 _ _ _ _ _ (c.in-err-first.ensures.text e y.behind y.value y.stop));
+      forth = IfOk-from_err c.from_residual-in_err-first.result _ c.from_residual-in_err-first.ensures.0;
+      text = λ d e a b rest q x ha hb. let y = if_at_lem c.args.words.now c.args.at e a b rest x in spoke_exit c.from_residual-in_err-first.result c.in_err-first.field-0.0 _ _ _ _ _ c.from_residual-in_err-first.ensures.1
+          (fine_spoke c.in_err-first.field-0.0 _ _ _ _ _ (c.in_err-first.ensures.text e y.behind y.value y.stop));
     }
 
-pub print-if-returns-in-err-other : goal.print-if-returns-in-err-other
-print-if-returns-in-err-other t c =
+pub print_if-returns-in_err-other : goal.print_if-returns-in_err-other
+print_if-returns-in_err-other t c =
     record {
-      forth = IfOk-from_err c.from-residual-in-err-other.result _ c.from-residual-in-err-other.ensures.0;
-      text = λ d e a b rest q x ha hb. let y = if_at_lem c.args.words.now c.args.at e a b rest x in spoke_exit c.from-residual-in-err-other.result c.in-err-other.field-0.0 _ _ _ _ _ c.from-residual-in-err-other.ensures.1
-          (fine_spoke c.in-err-other.field-0.0 _ _ _ _ _ (c.in-err-other.ensures.text d a y.middle q (y.first c.in-ok-first.first (c.in-ok-first.ensures.text e y.behind y.value y.stop).0) ha));
+      forth = IfOk-from_err c.from_residual-in_err-other.result _ c.from_residual-in_err-other.ensures.0;
+      text = λ d e a b rest q x ha hb. let y = if_at_lem c.args.words.now c.args.at e a b rest x in spoke_exit c.from_residual-in_err-other.result c.in_err-other.field-0.0 _ _ _ _ _ c.from_residual-in_err-other.ensures.1
+          (fine_spoke c.in_err-other.field-0.0 _ _ _ _ _ (c.in_err-other.ensures.text d a y.middle q (y.first c.in_ok-first.first (c.in_ok-first.ensures.text e y.behind y.value y.stop).0) ha));
     }
 
-pub print-if-returns-in-err-end : goal.print-if-returns-in-err-end
-print-if-returns-in-err-end t c =
+pub print_if-returns-in_err-end : goal.print_if-returns-in_err-end
+print_if-returns-in_err-end t c =
     record {
-      forth = IfOk-from_err c.from-residual-in-err-end.result _ c.from-residual-in-err-end.ensures.0;
-      text = λ d e a b rest q x ha hb. let y = if_at_lem c.args.words.now c.args.at e a b rest x in spoke_exit c.from-residual-in-err-end.result c.in-err-end.field-0.0 _ _ _ _ _ c.from-residual-in-err-end.ensures.1
-          (fine_spoke c.in-err-end.field-0.0 _ _ _ _ _ (c.in-err-end.ensures.text d b rest q (y.other c.in-ok-other.other (c.in-ok-other.ensures.text d a y.middle q (y.first c.in-ok-first.first (c.in-ok-first.ensures.text e y.behind y.value y.stop).0) ha).0) hb));
+      forth = IfOk-from_err c.from_residual-in_err-end.result _ c.from_residual-in_err-end.ensures.0;
+      text = λ d e a b rest q x ha hb. let y = if_at_lem c.args.words.now c.args.at e a b rest x in spoke_exit c.from_residual-in_err-end.result c.in_err-end.field-0.0 _ _ _ _ _ c.from_residual-in_err-end.ensures.1
+          (fine_spoke c.in_err-end.field-0.0 _ _ _ _ _ (c.in_err-end.ensures.text d b rest q (y.other c.in_ok-other.other (c.in_ok-other.ensures.text d a y.middle q (y.first c.in_ok-first.first (c.in_ok-first.ensures.text e y.behind y.value y.stop).0) ha).0) hb));
     }
 
-pub print-if-returns : goal.print-if-returns
-print-if-returns t c =
+pub print_if-returns : goal.print_if-returns
+print_if-returns t c =
     record {
-      forth = omega (arith, c.in-ok-first.ensures.forth, c.in-ok-other.ensures.forth, c.in-ok-end.ensures.forth);
-      text = λ d e a b rest q x ha hb. let y = if_at_lem c.args.words.now c.args.at e a b rest x in ((c.in-ok-end.ensures.text d b rest q (y.other c.in-ok-other.other (c.in-ok-other.ensures.text d a y.middle q (y.first c.in-ok-first.first (c.in-ok-first.ensures.text e y.behind y.value y.stop).0) ha).0) hb).0, if_said d e a b _ _ _ _ _ _ _ c.in-ok-put.ensures (c.in-ok-first.ensures.text e y.behind y.value y.stop).1 (c.in-ok-other.ensures.text d a y.middle q (y.first c.in-ok-first.first (c.in-ok-first.ensures.text e y.behind y.value y.stop).0) ha).1 c.in-ok-put-2.ensures (c.in-ok-end.ensures.text d b rest q (y.other c.in-ok-other.other (c.in-ok-other.ensures.text d a y.middle q (y.first c.in-ok-first.first (c.in-ok-first.ensures.text e y.behind y.value y.stop).0) ha).0) hb).1 c.in-ok-put-3.ensures);
+      forth = omega (arith, c.in_ok-first.ensures.forth, c.in_ok-other.ensures.forth, c.in_ok-end.ensures.forth);
+      text = λ d e a b rest q x ha hb. let y = if_at_lem c.args.words.now c.args.at e a b rest x in ((c.in_ok-end.ensures.text d b rest q (y.other c.in_ok-other.other (c.in_ok-other.ensures.text d a y.middle q (y.first c.in_ok-first.first (c.in_ok-first.ensures.text e y.behind y.value y.stop).0) ha).0) hb).0, if_said d e a b _ _ _ _ _ _ _ c.in_ok-put.ensures (c.in_ok-first.ensures.text e y.behind y.value y.stop).1 (c.in_ok-other.ensures.text d a y.middle q (y.first c.in_ok-first.first (c.in_ok-first.ensures.text e y.behind y.value y.stop).0) ha).1 c.in_ok-put-2.ensures (c.in_ok-end.ensures.text d b rest q (y.other c.in_ok-other.other (c.in_ok-other.ensures.text d a y.middle q (y.first c.in_ok-first.first (c.in_ok-first.ensures.text e y.behind y.value y.stop).0) ha).0) hb).1 c.in_ok-put-3.ensures);
     }
 
-pub print-while-returns-in-err-first : goal.print-while-returns-in-err-first
-print-while-returns-in-err-first t c =
+pub print_while-returns-in_err-first : goal.print_while-returns-in_err-first
+print_while-returns-in_err-first t c =
     record {
-      forth = IfOk-from_err c.from-residual-in-err-first.result _ c.from-residual-in-err-first.ensures.0;
-      text = λ d e a rest q x ha. let y = while_at_lem c.args.words.now c.args.at e a rest x in spoke_exit c.from-residual-in-err-first.result c.in-err-first.field-0.0 _ _ _ _ _ c.from-residual-in-err-first.ensures.1
-          (fine_spoke c.in-err-first.field-0.0 _ _ _ _ _ (c.in-err-first.ensures.text e y.behind y.value y.stop));
+      forth = IfOk-from_err c.from_residual-in_err-first.result _ c.from_residual-in_err-first.ensures.0;
+      text = λ d e a rest q x ha. let y = while_at_lem c.args.words.now c.args.at e a rest x in spoke_exit c.from_residual-in_err-first.result c.in_err-first.field-0.0 _ _ _ _ _ c.from_residual-in_err-first.ensures.1
+          (fine_spoke c.in_err-first.field-0.0 _ _ _ _ _ (c.in_err-first.ensures.text e y.behind y.value y.stop));
     }
 
-pub print-while-returns-in-err-end : goal.print-while-returns-in-err-end
-print-while-returns-in-err-end t c =
+pub print_while-returns-in_err-end : goal.print_while-returns-in_err-end
+print_while-returns-in_err-end t c =
     record {
-      forth = IfOk-from_err c.from-residual-in-err-end.result _ c.from-residual-in-err-end.ensures.0;
-      text = λ d e a rest q x ha. let y = while_at_lem c.args.words.now c.args.at e a rest x in spoke_exit c.from-residual-in-err-end.result c.in-err-end.field-0.0 _ _ _ _ _ c.from-residual-in-err-end.ensures.1
-          (fine_spoke c.in-err-end.field-0.0 _ _ _ _ _ (c.in-err-end.ensures.text d a rest q (y.first c.in-ok-first.first (c.in-ok-first.ensures.text e y.behind y.value y.stop).0) ha));
+      forth = IfOk-from_err c.from_residual-in_err-end.result _ c.from_residual-in_err-end.ensures.0;
+      text = λ d e a rest q x ha. let y = while_at_lem c.args.words.now c.args.at e a rest x in spoke_exit c.from_residual-in_err-end.result c.in_err-end.field-0.0 _ _ _ _ _ c.from_residual-in_err-end.ensures.1
+          (fine_spoke c.in_err-end.field-0.0 _ _ _ _ _ (c.in_err-end.ensures.text d a rest q (y.first c.in_ok-first.first (c.in_ok-first.ensures.text e y.behind y.value y.stop).0) ha));
     }
 
-pub print-while-returns : goal.print-while-returns
-print-while-returns t c =
+pub print_while-returns : goal.print_while-returns
+print_while-returns t c =
     record {
-      forth = omega (arith, c.in-ok-first.ensures.forth, c.in-ok-end.ensures.forth);
-      text = λ d e a rest q x ha. let y = while_at_lem c.args.words.now c.args.at e a rest x in ((c.in-ok-end.ensures.text d a rest q (y.first c.in-ok-first.first (c.in-ok-first.ensures.text e y.behind y.value y.stop).0) ha).0, while_said d e a _ _ _ _ _ c.in-ok-put.ensures (c.in-ok-first.ensures.text e y.behind y.value y.stop).1 (c.in-ok-end.ensures.text d a rest q (y.first c.in-ok-first.first (c.in-ok-first.ensures.text e y.behind y.value y.stop).0) ha).1 c.in-ok-put-2.ensures);
+      forth = omega (arith, c.in_ok-first.ensures.forth, c.in_ok-end.ensures.forth);
+      text = λ d e a rest q x ha. let y = while_at_lem c.args.words.now c.args.at e a rest x in ((c.in_ok-end.ensures.text d a rest q (y.first c.in_ok-first.first (c.in_ok-first.ensures.text e y.behind y.value y.stop).0) ha).0, while_said d e a _ _ _ _ _ c.in_ok-put.ensures (c.in_ok-first.ensures.text e y.behind y.value y.stop).1 (c.in_ok-end.ensures.text d a rest q (y.first c.in_ok-first.first (c.in_ok-first.ensures.text e y.behind y.value y.stop).0) ha).1 c.in_ok-put-2.ensures);
     }
 
-pub print-guard-returns-in-err-other : goal.print-guard-returns-in-err-other
-print-guard-returns-in-err-other t c =
+pub print_guard-returns-in_err-other : goal.print_guard-returns-in_err-other
+print_guard-returns-in_err-other t c =
     record {
-      forth = IfOk-from_err c.from-residual-in-err-other.result _ c.from-residual-in-err-other.ensures.0;
-      text = λ d a b rest q x ha hb. let y = guard_at_lem c.args.words.now c.args.at a b rest x in spoke_exit c.from-residual-in-err-other.result c.in-err-other.field-0.0 _ _ _ _ _ c.from-residual-in-err-other.ensures.1
-          (fine_spoke c.in-err-other.field-0.0 _ _ _ _ _ (c.in-err-other.ensures.text d a y.middle q y.first ha));
+      forth = IfOk-from_err c.from_residual-in_err-other.result _ c.from_residual-in_err-other.ensures.0;
+      text = λ d a b rest q x ha hb. let y = guard_at_lem c.args.words.now c.args.at a b rest x in spoke_exit c.from_residual-in_err-other.result c.in_err-other.field-0.0 _ _ _ _ _ c.from_residual-in_err-other.ensures.1
+          (fine_spoke c.in_err-other.field-0.0 _ _ _ _ _ (c.in_err-other.ensures.text d a y.middle q y.first ha));
     }
 
-pub print-guard-returns-in-err-end : goal.print-guard-returns-in-err-end
-print-guard-returns-in-err-end t c =
+pub print_guard-returns-in_err-end : goal.print_guard-returns-in_err-end
+print_guard-returns-in_err-end t c =
     record {
-      forth = IfOk-from_err c.from-residual-in-err-end.result _ c.from-residual-in-err-end.ensures.0;
-      text = λ d a b rest q x ha hb. let y = guard_at_lem c.args.words.now c.args.at a b rest x in spoke_exit c.from-residual-in-err-end.result c.in-err-end.field-0.0 _ _ _ _ _ c.from-residual-in-err-end.ensures.1
-          (fine_spoke c.in-err-end.field-0.0 _ _ _ _ _ (c.in-err-end.ensures.text d b rest q (y.other c.in-ok-other.other (c.in-ok-other.ensures.text d a y.middle q y.first ha).0) hb));
+      forth = IfOk-from_err c.from_residual-in_err-end.result _ c.from_residual-in_err-end.ensures.0;
+      text = λ d a b rest q x ha hb. let y = guard_at_lem c.args.words.now c.args.at a b rest x in spoke_exit c.from_residual-in_err-end.result c.in_err-end.field-0.0 _ _ _ _ _ c.from_residual-in_err-end.ensures.1
+          (fine_spoke c.in_err-end.field-0.0 _ _ _ _ _ (c.in_err-end.ensures.text d b rest q (y.other c.in_ok-other.other (c.in_ok-other.ensures.text d a y.middle q y.first ha).0) hb));
     }
 
-pub print-guard-returns : goal.print-guard-returns
-print-guard-returns t c =
+pub print_guard-returns : goal.print_guard-returns
+print_guard-returns t c =
     record {
-      forth = omega (arith, c.in-ok-other.ensures.forth, c.in-ok-end.ensures.forth);
-      text = λ d a b rest q x ha hb. let y = guard_at_lem c.args.words.now c.args.at a b rest x in ((c.in-ok-end.ensures.text d b rest q (y.other c.in-ok-other.other (c.in-ok-other.ensures.text d a y.middle q y.first ha).0) hb).0, guard_said d a b _ _ _ _ _ _ c.in-ok-put.ensures (c.in-ok-other.ensures.text d a y.middle q y.first ha).1 c.in-ok-put-2.ensures (c.in-ok-end.ensures.text d b rest q (y.other c.in-ok-other.other (c.in-ok-other.ensures.text d a y.middle q y.first ha).0) hb).1 c.in-ok-put-3.ensures);
+      forth = omega (arith, c.in_ok-other.ensures.forth, c.in_ok-end.ensures.forth);
+      text = λ d a b rest q x ha hb. let y = guard_at_lem c.args.words.now c.args.at a b rest x in ((c.in_ok-end.ensures.text d b rest q (y.other c.in_ok-other.other (c.in_ok-other.ensures.text d a y.middle q y.first ha).0) hb).0, guard_said d a b _ _ _ _ _ _ c.in_ok-put.ensures (c.in_ok-other.ensures.text d a y.middle q y.first ha).1 c.in_ok-put-2.ensures (c.in_ok-end.ensures.text d b rest q (y.other c.in_ok-other.other (c.in_ok-other.ensures.text d a y.middle q y.first ha).0) hb).1 c.in_ok-put-3.ensures);
     }
 
-pub print-braced-returns-in-err-end : goal.print-braced-returns-in-err-end
-print-braced-returns-in-err-end t c =
+pub print_braced-returns-in_err-end : goal.print_braced-returns-in_err-end
+print_braced-returns-in_err-end t c =
     record {
-      forth = IfOk-from_err c.from-residual-in-err-end.result _ c.from-residual-in-err-end.ensures.0;
-      text = λ d b rest q x hb. spoke_exit c.from-residual-in-err-end.result c.in-err-end.field-0.0 _ _ _ _ _ c.from-residual-in-err-end.ensures.1
-          (fine_spoke c.in-err-end.field-0.0 _ _ _ _ _ (c.in-err-end.ensures.text (suc d) b rest (omega arith) x hb));
+      forth = IfOk-from_err c.from_residual-in_err-end.result _ c.from_residual-in_err-end.ensures.0;
+      text = λ d b rest q x hb. spoke_exit c.from_residual-in_err-end.result c.in_err-end.field-0.0 _ _ _ _ _ c.from_residual-in_err-end.ensures.1
+          (fine_spoke c.in_err-end.field-0.0 _ _ _ _ _ (c.in_err-end.ensures.text (suc d) b rest (omega arith) x hb));
     }
 
-pub print-braced-returns : goal.print-braced-returns
-print-braced-returns t c =
+pub print_braced-returns : goal.print_braced-returns
+print_braced-returns t c =
     record {
-      forth = omega (arith, c.in-ok-end.ensures.forth);
-      text = λ d b rest q x hb. ((c.in-ok-end.ensures.text (suc d) b rest (omega arith) x hb).0, braced_said d c.args.depth b _ _ _ _ _ q c.in-ok-put.ensures (c.in-ok-end.ensures.text (suc d) b rest (omega arith) x hb).1 c.in-ok-put-indent.ensures c.in-ok-put-2.ensures);
+      forth = omega (arith, c.in_ok-end.ensures.forth);
+      text = λ d b rest q x hb. ((c.in_ok-end.ensures.text (suc d) b rest (omega arith) x hb).0, braced_said d c.args.depth b _ _ _ _ _ q c.in_ok-put.ensures (c.in_ok-end.ensures.text (suc d) b rest (omega arith) x hb).1 c.in_ok-put_indent.ensures c.in_ok-put-2.ensures);
     }
 
-pub print-part-loop-at-init : goal.print-part-loop-at-init
-print-part-loop-at-init t c = (omega arith, λ d b rest q x h. goes_start c.args.words.now c.args.at d b rest _ x h)
+pub print_part-loop-at-init : goal.print_part-loop-at-init
+print_part-loop-at-init t c = (omega arith, λ d b rest q x h. goes_start c.args.words.now c.args.at d b rest _ x h)
 
-pub print-part-returns-then-not-holds : goal.print-part-returns-then-not-holds
-print-part-returns-then-not-holds t c =
+pub print_part-returns-then-not-holds : goal.print_part-returns-then-not-holds
+print_part-returns-then-not-holds t c =
     record { forth = tt; text = λ d b rest q x h. goes_room c.args.words.now c.loop-at.here d b rest _ _ c.if-not-holds.ensures (c.loop-at.invariant.1 d b rest q x h) }
 
-pub print-part-returns-then-words-here-eq-PART : goal.print-part-returns-then-words-here-eq-PART
-print-part-returns-then-words-here-eq-PART t c =
+pub print_part-returns-then-words-here-eq-PART : goal.print_part-returns-then-words-here-eq-PART
+print_part-returns-then-words-here-eq-PART t c =
     record { forth = omega (arith, c.loop-at.invariant.0); text = λ d b rest q x h. goes_end c.args.words.now c.loop-at.here d b rest _ _ c.if-words-here-eq-PART.true (c.loop-at.invariant.1 d b rest q x h) }
 
-pub print-part-returns-in-err-here : goal.print-part-returns-in-err-here
-print-part-returns-in-err-here t c =
+pub print_part-returns-in_err-here : goal.print_part-returns-in_err-here
+print_part-returns-in_err-here t c =
     record {
-      forth = IfOk-from_err c.from-residual.result _ c.from-residual.ensures.0;
+      forth = IfOk-from_err c.from_residual.result _ c.from_residual.ensures.0;
       text = λ d b rest q x h. let y = goes_more c.args.words.now c.loop-at.here d b rest _ _ c.if-words-here-eq-PART.false (c.loop-at.invariant.1 d b rest q x h) in
-          spoke_exit c.from-residual.result c.in-err-here.field-0.0 _ _ _ _ _ c.from-residual.ensures.1
-          (fine_spoke c.in-err-here.field-0.0 _ _ _ _ _ (c.in-err-here.ensures.text d y.one y.behind q y.stands y.fine));
+          spoke_exit c.from_residual.result c.in_err-here.field-0.0 _ _ _ _ _ c.from_residual.ensures.1
+          (fine_spoke c.in_err-here.field-0.0 _ _ _ _ _ (c.in_err-here.ensures.text d y.one y.behind q y.stands y.fine));
     }
 
-pub print-part-loop-at-preserved : goal.print-part-loop-at-preserved
-print-part-loop-at-preserved t c = (
-  omega (arith, c.loop-at.invariant.0, c.in-ok-here.ensures.forth),
+pub print_part-loop-at-preserved : goal.print_part-loop-at-preserved
+print_part-loop-at-preserved t c = (
+  omega (arith, c.loop-at.invariant.0, c.in_ok-here.ensures.forth),
   λ d b rest q x h. let y = goes_more c.args.words.now c.loop-at.here d b rest _ _ c.if-words-here-eq-PART.false (c.loop-at.invariant.1 d b rest q x h) in
-      let z = c.in-ok-here.ensures.text d y.one y.behind q y.stands y.fine in y.goes _ _ z.0 z.1,
+      let z = c.in_ok-here.ensures.text d y.one y.behind q y.stands y.fine in y.goes _ _ z.0 z.1,
 )

@@ -4,27 +4,27 @@ use Rattle.printing.specs.Heads.{PartAt}
 use Rattle.printing.proofs.Parts.{Goes}
 use Rattle.printing.proofs.+print_braced_print_guard_print_if_print_part_print_statement_print_while.Given as goal
 
-abbrev pub decreases-print-braced : goal.decreases-print-braced
-decreases-print-braced l = 4 * (length l.words.now - l.at) + 3
+abbrev pub decreases-print_braced : goal.decreases-print_braced
+decreases-print_braced l = 4 * (length l.words.now - l.at) + 3
 
-abbrev pub decreases-print-part : goal.decreases-print-part
-decreases-print-part l = 4 * (length l.words.now - l.at) + 2
+abbrev pub decreases-print_part : goal.decreases-print_part
+decreases-print_part l = 4 * (length l.words.now - l.at) + 2
 
-abbrev pub decreases-print-statement : goal.decreases-print-statement
-decreases-print-statement l = 4 * (length l.words.now - l.at) + 1
+abbrev pub decreases-print_statement : goal.decreases-print_statement
+decreases-print_statement l = 4 * (length l.words.now - l.at) + 1
 
-abbrev pub decreases-print-if : goal.decreases-print-if
-decreases-print-if l = 4 * (length l.words.now - l.at)
+abbrev pub decreases-print_if : goal.decreases-print_if
+decreases-print_if l = 4 * (length l.words.now - l.at)
 
-abbrev pub decreases-print-while : goal.decreases-print-while
-decreases-print-while l = 4 * (length l.words.now - l.at)
+abbrev pub decreases-print_while : goal.decreases-print_while
+decreases-print_while l = 4 * (length l.words.now - l.at)
 
-abbrev pub decreases-print-guard : goal.decreases-print-guard
-decreases-print-guard l = 4 * (length l.words.now - l.at)
+abbrev pub decreases-print_guard : goal.decreases-print_guard
+decreases-print_guard l = 4 * (length l.words.now - l.at)
 
-abbrev pub invariant-print-part-loop-at : goal.invariant-print-part-loop-at
-invariant-print-part-loop-at l =
+abbrev pub invariant-print_part-loop-at : goal.invariant-print_part-loop-at
+invariant-print_part-loop-at l =
     (l.at ≤ l.here) × ((d : ℕ) (b : Block) (rest : List ℕ) → l.depth ≡ min d 32 → PartAt l.words l.at b rest → block_ok b ≡ true → Goes l.words l.here d b rest (vec_items l.initial.out) (vec_items l.out))
 
-abbrev pub decreases-print-part-loop-at : goal.decreases-print-part-loop-at
-decreases-print-part-loop-at l = length l.words - l.here
+abbrev pub decreases-print_part-loop-at : goal.decreases-print_part-loop-at
+decreases-print_part-loop-at l = length l.words - l.here

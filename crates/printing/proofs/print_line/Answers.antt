@@ -6,9 +6,9 @@ use Rattle.printing.proofs.print_line.Goals as goal
 pub returns : goal.returns
 returns c =
     record {
-      forth = c.in-ok-end.ensures.forth;
+      forth = c.in_ok-end.ensures.forth;
       text = λ e rest h s. (
-        (c.in-ok-end.ensures.text e rest h s).0,
-        seq _ _ _ c.args.bytes.now _ c.in-ok-put.ensures (seq _ _ _ (expr_text compare e) _ (c.in-ok-end.ensures.text e rest h s).1 c.in-ok-put-2.ensures),
+        (c.in_ok-end.ensures.text e rest h s).0,
+        seq _ _ _ c.args.bytes.now _ c.in_ok-put.ensures (seq _ _ _ (expr_text compare e) _ (c.in_ok-end.ensures.text e rest h s).1 c.in_ok-put-2.ensures),
       );
     }

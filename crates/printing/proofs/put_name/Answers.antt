@@ -6,7 +6,7 @@ pub returns-then-letters-i-gt255 : goal.returns-then-letters-i-gt255
 returns-then-letters-i-gt255 c = λ h. letter_large c.args.letters.now c.loop-i.i h (omega arith)
 
 pub loop-i-preserved : goal.loop-i-preserved
-loop-i-preserved c = (omega arith, letter_added _ _ _ c.args.letters.now c.loop-i.i c.loop-i-test.true (omega arith) c.loop-i.invariant.1 c.in-ok-put.ensures)
+loop-i-preserved c = (omega arith, letter_added _ _ _ c.args.letters.now c.loop-i.i c.loop-i-test.true (omega arith) c.loop-i.invariant.1 c.in_ok-put.ensures)
 
 pub returns-else-letters-i-ne0 : goal.returns-else-letters-i-ne0
 returns-else-letters-i-ne0 c = λ h. letters_done _ _ _ (letter_stop c.args.letters.now c.loop-i.i c.loop-i-test.true (omega arith)) c.loop-i.invariant.1

@@ -4,5 +4,5 @@ use Rattle.printing.proofs.put_task.Goals as goal
 
 pub returns : goal.returns
 returns c =
-    then_wrote c.put-2.result _ _ _ (codes "v" ++ decimal c.args.v) _ c.in-ok-put-variable.ensures
-    (then_wrote c.put-2.result _ _ _ (codes " = do ") _ c.in-ok-put.ensures (then_wrote c.put-2.result _ _ _ (decimal c.args.kind) _ c.in-ok-put-number.ensures c.put-2.ensures))
+    then_wrote c.put-2.result _ _ _ (codes "v" ++ decimal c.args.v) _ c.in_ok-put_variable.ensures
+    (then_wrote c.put-2.result _ _ _ (codes " = do ") _ c.in_ok-put.ensures (then_wrote c.put-2.result _ _ _ (decimal c.args.kind) _ c.in_ok-put_number.ensures c.put-2.ensures))

@@ -4,5 +4,5 @@ use Rattle.printing.proofs.put_terms.Goals as goal
 
 pub returns : goal.returns
 returns c =
-    then_wrote c.put-3.result _ _ _ (codes ") tries ") _ c.in-ok-put.ensures (then_wrote c.put-3.result _ _ _ (decimal c.args.tries) _ c.in-ok-put-number.ensures
-    (then_wrote c.put-3.result _ _ _ (codes " pause ") _ c.in-ok-put-2.ensures (then_wrote c.put-3.result _ _ _ (decimal c.args.pause) _ c.in-ok-put-number-2.ensures c.put-3.ensures)))
+    then_wrote c.put-3.result _ _ _ (codes ") tries ") _ c.in_ok-put.ensures (then_wrote c.put-3.result _ _ _ (decimal c.args.tries) _ c.in_ok-put_number.ensures
+    (then_wrote c.put-3.result _ _ _ (codes " pause ") _ c.in_ok-put-2.ensures (then_wrote c.put-3.result _ _ _ (decimal c.args.pause) _ c.in_ok-put_number-2.ensures c.put-3.ensures)))

@@ -8,24 +8,24 @@ use Rattle.reading.proofs.Taking.{stop_end}
 use Rattle.reading.proofs.Whole.{not_short, no_part, token_behind, is_read}
 use Rattle.reading.proofs.read_draft.Goals as goal
 
-pub returns-then-text-gt-LONGEST-TEXT : goal.returns-then-text-gt-LONGEST-TEXT
-returns-then-text-gt-LONGEST-TEXT c = not_short c.args.text.now c.if-text-gt-LONGEST-TEXT.true
+pub returns-then-text-gt-LONGEST_TEXT : goal.returns-then-text-gt-LONGEST_TEXT
+returns-then-text-gt-LONGEST_TEXT c = not_short c.args.text.now c.if-text-gt-LONGEST_TEXT.true
 
-pub returns-in-err-c : goal.returns-in-err-c
-returns-in-err-c c =
+pub returns-in_err-c : goal.returns-in_err-c
+returns-in_err-c c =
     let long = c.requires in
-    let q = err_from_is_err_and c.from-residual.result c.from-residual.ensures.1 in
-    rw q.1 (no_part c.args.text.now c.if-text-gt-LONGEST-TEXT.false (subst (λ (n : ℕ). Bars part_at (Large size_of n 0) (ahead c.args.text.now 0)) (c.part.auto.out ∙ long) c.in-err-c.ensures.read))
+    let q = err_from_is_err_and c.from_residual.result c.from_residual.ensures.1 in
+    rw q.1 (no_part c.args.text.now c.if-text-gt-LONGEST_TEXT.false (subst (λ (n : ℕ). Bars part_at (Large size_of n 0) (ahead c.args.text.now 0)) (c.part.auto.out ∙ long) c.in_err-c.ensures.read))
 
-pub returns-then-not-stops-at : goal.returns-then-not-stops-at
-returns-then-not-stops-at c =
+pub returns-then-not-stops_at : goal.returns-then-not-stops_at
+returns-then-not-stops_at c =
     let long = c.requires in
-    let r = c.in-ok-c.ensures.read in
-    token_behind r.item c.args.text.now c.in-ok-c.c.pos c.token-at-found.result.token _ _ c.if-text-gt-LONGEST-TEXT.false r.took c.token-at-found.ensures.ahead (sym c.stops_at.ensures ∙ c.if-not-stops-at.true)
+    let r = c.in_ok-c.ensures.read in
+    token_behind r.item c.args.text.now c.in_ok-c.c.pos c.token_at-found.result.token _ _ c.if-text-gt-LONGEST_TEXT.false r.took c.token_at-found.ensures.ahead (sym c.stops_at.ensures ∙ c.if-not-stops_at.true)
 
 pub returns : goal.returns
 returns c =
     let long = c.requires in
-    let r = c.in-ok-c.ensures.read in
-    let f = c.in-ok-c.ensures.forth in
-    is_read c.args.text.now c.part.new.out r.item c.in-ok-c.c.pos c.in-ok-c.c.len c.token-at-found.result.token _ _ c.if-text-gt-LONGEST-TEXT.false (c.part.auto.out ∙ long) (omega (arith, f.3, c.part.auto.out)) r.took r.words c.token-at-found.ensures.ahead (sym c.stops_at.ensures ∙ c.if-not-stops-at.false) (stop_end c.args.text.now c.in-ok-c.c.pos c.token-at-found.result c.token-at-found.ensures.forth)
+    let r = c.in_ok-c.ensures.read in
+    let f = c.in_ok-c.ensures.forth in
+    is_read c.args.text.now c.part.new.out r.item c.in_ok-c.c.pos c.in_ok-c.c.len c.token_at-found.result.token _ _ c.if-text-gt-LONGEST_TEXT.false (c.part.auto.out ∙ long) (omega (arith, f.3, c.part.auto.out)) r.took r.words c.token_at-found.ensures.ahead (sym c.stops_at.ensures ∙ c.if-not-stops_at.false) (stop_end c.args.text.now c.in_ok-c.c.pos c.token_at-found.result c.token_at-found.ensures.forth)

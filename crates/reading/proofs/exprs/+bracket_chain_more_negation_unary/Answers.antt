@@ -17,69 +17,69 @@ use Rattle.reading.proofs.exprs.+bracket_chain_more_negation_unary.Goals as goal
 pub bracket-returns-then-deep-eq0 : goal.bracket-returns-then-deep-eq0
 bracket-returns-then-deep-eq0 ring c = record { forth = tt; read = λ l h. subst (λ (d : ℕ). Bars (expr_at Unary d) (NoRoom (length c.args.out.now) (length (take c.args.len c.args.out.now))) l) (sym c.if-deep-eq0.true) (bracket_bar_deep _ l _ h) }
 
-pub bracket-returns-in-err-c : goal.bracket-returns-in-err-c
-bracket-returns-in-err-c ring c =
-    let q = err_from_is_err_and c.from-residual.result c.from-residual.ensures.1 in
-    rw q.1 (record { forth = tt; read = λ l h. subst (λ (d : ℕ). Bars (expr_at Unary d) (NoRoom (length c.chain.new.out) (length (take c.args.len c.args.out.now))) l) (suc_pred c.args.deep c.if-deep-eq0.false) (bracket_bar_inside (c.args.deep - 1) _ h c.in-err-c.ensures.read) })
+pub bracket-returns-in_err-c : goal.bracket-returns-in_err-c
+bracket-returns-in_err-c ring c =
+    let q = err_from_is_err_and c.from_residual.result c.from_residual.ensures.1 in
+    rw q.1 (record { forth = tt; read = λ l h. subst (λ (d : ℕ). Bars (expr_at Unary d) (NoRoom (length c.chain.new.out) (length (take c.args.len c.args.out.now))) l) (suc_pred c.args.deep c.if-deep-eq0.false) (bracket_bar_inside (c.args.deep - 1) _ h c.in_err-c.ensures.read) })
 
-pub bracket-returns-in-err-next : goal.bracket-returns-in-err-next
-bracket-returns-in-err-next ring c =
-    let q = err_from_is_err_and c.from-residual-in-err-next.result c.from-residual-in-err-next.ensures.1 in
-    let r = c.in-ok-c.ensures.read in
-    rw q.1 (record { forth = tt; read = λ l h. subst (λ (d : ℕ). Bars (expr_at Unary d) (NoRoom (length c.chain.new.out) (length (take c.args.len c.args.out.now))) l) (suc_pred c.args.deep c.if-deep-eq0.false) (bracket_bar_close (c.args.deep - 1) r.tree _ h r.took c.in-err-next.ensures) })
+pub bracket-returns-in_err-next : goal.bracket-returns-in_err-next
+bracket-returns-in_err-next ring c =
+    let q = err_from_is_err_and c.from_residual-in_err-next.result c.from_residual-in_err-next.ensures.1 in
+    let r = c.in_ok-c.ensures.read in
+    rw q.1 (record { forth = tt; read = λ l h. subst (λ (d : ℕ). Bars (expr_at Unary d) (NoRoom (length c.chain.new.out) (length (take c.args.len c.args.out.now))) l) (suc_pred c.args.deep c.if-deep-eq0.false) (bracket_bar_close (c.args.deep - 1) r.tree _ h r.took c.in_err-next.ensures) })
 
 pub bracket-returns : goal.bracket-returns
 bracket-returns ring c =
-    let f = c.in-ok-c.ensures.forth in
-    let r = c.in-ok-c.ensures.read in
-    let k = c.in-ok-next.ensures in
+    let f = c.in_ok-c.ensures.forth in
+    let r = c.in_ok-c.ensures.read in
+    let k = c.in_ok-next.ensures in
     record {
       forth = (omega arith, omega (arith, k.1), omega arith, omega arith);
-      read = λ l h. record { tree = r.tree; took = subst (λ (d : ℕ). Took (expr_at Unary d) r.tree l (ahead c.args.text.now c.in-ok-next.next)) (suc_pred c.args.deep c.if-deep-eq0.false) (bracket_took (c.args.deep - 1) r.tree h r.took k.0); words = r.words };
+      read = λ l h. record { tree = r.tree; took = subst (λ (d : ℕ). Took (expr_at Unary d) r.tree l (ahead c.args.text.now c.in_ok-next.next)) (suc_pred c.args.deep c.if-deep-eq0.false) (bracket_took (c.args.deep - 1) r.tree h r.took k.0); words = r.words };
     }
 
-pub chain-returns-in-err-c : goal.chain-returns-in-err-c
-chain-returns-in-err-c ring c =
-    let q = err_from_is_err_and c.from-residual.result c.from-residual.ensures.1 in
-    rw q.1 (record { forth = tt; read = chain_bar_first c.args.level c.args.deep (length c.chain.new.out) (length (take c.args.at.len c.args.out.now)) (sym c.is-unary.ensures ∙ c.if-is-unary.false) (subst (λ (v : Level). Bars (expr_at v c.args.deep) (NoRoom (length c.chain.new.out) (length (take c.args.at.len c.args.out.now))) (ahead c.args.text.now c.args.at.pos)) c.below.ensures c.in-err-c.ensures.read) })
+pub chain-returns-in_err-c : goal.chain-returns-in_err-c
+chain-returns-in_err-c ring c =
+    let q = err_from_is_err_and c.from_residual.result c.from_residual.ensures.1 in
+    rw q.1 (record { forth = tt; read = chain_bar_first c.args.level c.args.deep (length c.chain.new.out) (length (take c.args.at.len c.args.out.now)) (sym c.is_unary.ensures ∙ c.if-is_unary.false) (subst (λ (v : Level). Bars (expr_at v c.args.deep) (NoRoom (length c.chain.new.out) (length (take c.args.at.len c.args.out.now))) (ahead c.args.text.now c.args.at.pos)) c.below.ensures c.in_err-c.ensures.read) })
 
 pub chain-returns : goal.chain-returns
 chain-returns ring c =
-    let f = c.in-ok-c.ensures.forth in
-    let r = c.in-ok-c.ensures.read in
-    let t = subst (λ (v : Level). Took (expr_at v c.args.deep) r.tree (ahead c.args.text.now c.args.at.pos) (ahead c.args.text.now c.in-ok-c.c.pos)) c.below.ensures r.took in
+    let f = c.in_ok-c.ensures.forth in
+    let r = c.in_ok-c.ensures.read in
+    let t = subst (λ (v : Level). Took (expr_at v c.args.deep) r.tree (ahead c.args.text.now c.args.at.pos) (ahead c.args.text.now c.in_ok-c.c.pos)) c.below.ensures r.took in
     record {
-      forth = further_on c.more.result 1 c.args.at c.in-ok-c.c _ _ (length c.args.out.now) c.chain.auto.out c.more.ensures.forth f.0 f.2;
-      read = chain_read c.args.level c.args.deep r.tree c.args.text.now c.args.at.pos (take c.args.at.len c.args.out.now) c.in-ok-c.c c.more.new.out c.more.result (sym c.is-unary.ensures ∙ c.if-is-unary.false) t (c.more.ensures.read (take c.args.at.len c.args.out.now) r.tree r.words);
+      forth = further_on c.more.result 1 c.args.at c.in_ok-c.c _ _ (length c.args.out.now) c.chain.auto.out c.more.ensures.forth f.0 f.2;
+      read = chain_read c.args.level c.args.deep r.tree c.args.text.now c.args.at.pos (take c.args.at.len c.args.out.now) c.in_ok-c.c c.more.new.out c.more.result (sym c.is_unary.ensures ∙ c.if-is_unary.false) t (c.more.ensures.read (take c.args.at.len c.args.out.now) r.tree r.words);
     }
 
-pub more-returns-in-default : goal.more-returns-in-default
-more-returns-in-default ring c =
-    let f = c.token-at-found.ensures.forth in
+pub more-returns-in_default : goal.more-returns-in_default
+more-returns-in_default ring c =
+    let f = c.token_at-found.ensures.forth in
     record {
       forth = (omega (arith, f.after), omega (arith, f.order, f.within c.requires.within), omega arith, c.requires.room);
-      read = λ pre e h. record { tree = e; took = subst (λ (x : Lexed). Took (more_at c.args.level c.args.deep e) e (ahead c.args.text.now c.args.at.pos) x) (sym c.token-at-found.ensures.start) (more_none c.args.level c.args.deep e c.token-at-found.result.token _ _ _ c.token-at-found.ensures.ahead (stop_end c.args.text.now c.args.at.pos c.token-at-found.result f) (sym c.joins.ensures ∙ none_of c.joins.result c.in-default.not-Some)); words = h };
+      read = λ pre e h. record { tree = e; took = subst (λ (x : Lexed). Took (more_at c.args.level c.args.deep e) e (ahead c.args.text.now c.args.at.pos) x) (sym c.token_at-found.ensures.start) (more_none c.args.level c.args.deep e c.token_at-found.result.token _ _ _ c.token_at-found.ensures.ahead (stop_end c.args.text.now c.args.at.pos c.token_at-found.result f) (sym c.joins.ensures ∙ none_of c.joins.result c.in_default.not-Some)); words = h };
     }
 
-pub more-returns-in-err-c : goal.more-returns-in-err-c
-more-returns-in-err-c ring c =
-    let q = err_from_is_err_and c.from-residual.result c.from-residual.ensures.1 in
-    let j = joined c.args.level c.token-at-found.result.token c.in-Some.operator (sym c.joins.ensures ∙ c.in-Some.is) in
-    let a = op_ahead c.args.text.now c.args.at.pos c.token-at-found.result c.in-Some.operator c.token-at-found.ensures.ahead j.token_is in
-    rw q.1 (record { forth = tt; read = λ pre e h. more_bar_right c.args.level c.args.deep (length c.chain.new.out) (length pre) (length (take c.args.at.len c.args.out.now)) c.in-Some.operator e j.joins_by a (ap length h ∙ (length-append pre (code_of e) ∙ ap (λ (x : ℕ). length pre + x) (code_length e))) (subst (λ (v : Level). Bars (expr_at v c.args.deep) (NoRoom (length c.chain.new.out) (length (take c.args.at.len c.args.out.now))) (ahead c.args.text.now c.token-at-found.result.next)) c.below.ensures c.in-err-c.ensures.read) })
+pub more-returns-in_err-c : goal.more-returns-in_err-c
+more-returns-in_err-c ring c =
+    let q = err_from_is_err_and c.from_residual.result c.from_residual.ensures.1 in
+    let j = joined c.args.level c.token_at-found.result.token c.in-Some.operator (sym c.joins.ensures ∙ c.in-Some.is) in
+    let a = op_ahead c.args.text.now c.args.at.pos c.token_at-found.result c.in-Some.operator c.token_at-found.ensures.ahead j.token_is in
+    rw q.1 (record { forth = tt; read = λ pre e h. more_bar_right c.args.level c.args.deep (length c.chain.new.out) (length pre) (length (take c.args.at.len c.args.out.now)) c.in-Some.operator e j.joins_by a (ap length h ∙ (length-append pre (code_of e) ∙ ap (λ (x : ℕ). length pre + x) (code_length e))) (subst (λ (v : Level). Bars (expr_at v c.args.deep) (NoRoom (length c.chain.new.out) (length (take c.args.at.len c.args.out.now))) (ahead c.args.text.now c.token_at-found.result.next)) c.below.ensures c.in_err-c.ensures.read) })
 
 pub more-returns-then-out-c-lt4 : goal.more-returns-then-out-c-lt4
 more-returns-then-out-c-lt4 ring c =
-    let j = joined c.args.level c.token-at-found.result.token c.in-Some.operator (sym c.joins.ensures ∙ c.in-Some.is) in
-    let a = op_ahead c.args.text.now c.args.at.pos c.token-at-found.result c.in-Some.operator c.token-at-found.ensures.ahead j.token_is in
-    let f = c.in-ok-c.ensures.forth in
-    let r = c.in-ok-c.ensures.read in
-    let t = subst (λ (v : Level). Took (expr_at v c.args.deep) r.tree (ahead c.args.text.now c.token-at-found.result.next) (ahead c.args.text.now c.in-ok-c.c.pos)) c.below.ensures r.took in
+    let j = joined c.args.level c.token_at-found.result.token c.in-Some.operator (sym c.joins.ensures ∙ c.in-Some.is) in
+    let a = op_ahead c.args.text.now c.args.at.pos c.token_at-found.result c.in-Some.operator c.token_at-found.ensures.ahead j.token_is in
+    let f = c.in_ok-c.ensures.forth in
+    let r = c.in_ok-c.ensures.read in
+    let t = subst (λ (v : Level). Took (expr_at v c.args.deep) r.tree (ahead c.args.text.now c.token_at-found.result.next) (ahead c.args.text.now c.in_ok-c.c.pos)) c.below.ensures r.took in
     record {
       forth = tt;
       read = λ pre e h.
           let la = words_long c.args.out.now pre e c.args.at.len h c.requires.room in
-          let lb = words_long c.chain.new.out (take c.args.at.len c.args.out.now) r.tree c.in-ok-c.c.len r.words (omega (arith, f.3, c.chain.auto.out)) in
+          let lb = words_long c.chain.new.out (take c.args.at.len c.args.out.now) r.tree c.in_ok-c.c.len r.words (omega (arith, f.3, c.chain.auto.out)) in
           let lt = length-take-le c.args.at.len c.args.out.now c.requires.room in
           let bs = build_size c.in-Some.operator e r.tree in
           more_bar_here c.args.level c.args.deep (length c.chain.new.out) (length pre) c.in-Some.operator e r.tree j.joins_by a t (omega arith);
@@ -87,66 +87,66 @@ more-returns-then-out-c-lt4 ring c =
 
 pub more-returns : goal.more-returns
 more-returns ring c =
-    let j = joined c.args.level c.token-at-found.result.token c.in-Some.operator (sym c.joins.ensures ∙ c.in-Some.is) in
-    let a = op_ahead c.args.text.now c.args.at.pos c.token-at-found.result c.in-Some.operator c.token-at-found.ensures.ahead j.token_is in
-    let f = c.in-ok-c.ensures.forth in
-    let r = c.in-ok-c.ensures.read in
-    let t = subst (λ (v : Level). Took (expr_at v c.args.deep) r.tree (ahead c.args.text.now c.token-at-found.result.next) (ahead c.args.text.now c.in-ok-c.c.pos)) c.below.ensures r.took in
+    let j = joined c.args.level c.token_at-found.result.token c.in-Some.operator (sym c.joins.ensures ∙ c.in-Some.is) in
+    let a = op_ahead c.args.text.now c.args.at.pos c.token_at-found.result c.in-Some.operator c.token_at-found.ensures.ahead j.token_is in
+    let f = c.in_ok-c.ensures.forth in
+    let r = c.in_ok-c.ensures.read in
+    let t = subst (λ (v : Level). Took (expr_at v c.args.deep) r.tree (ahead c.args.text.now c.token_at-found.result.next) (ahead c.args.text.now c.in_ok-c.c.pos)) c.below.ensures r.took in
     let fm = c.more.ensures.forth in
-    let ft = c.token-at-found.ensures.forth in
+    let ft = c.token_at-found.ensures.forth in
     record {
       forth = further_on c.more.result 0 c.args.at _ _ _ (length c.args.out.now) (c.unit.auto.out ∙ c.chain.auto.out) c.more.ensures.forth (omega (arith, ft.after, ft.order, f.0)) (omega (arith, f.2));
       read = λ pre e h.
-          let lb = words_long c.chain.new.out (take c.args.at.len c.args.out.now) r.tree c.in-ok-c.c.len r.words (omega (arith, f.3, c.chain.auto.out)) in
+          let lb = words_long c.chain.new.out (take c.args.at.len c.args.out.now) r.tree c.in_ok-c.c.len r.words (omega (arith, f.3, c.chain.auto.out)) in
           let lt = length-take-le c.args.at.len c.args.out.now c.requires.room in
-          let k : c.kind-of.result ≡ kind_of c.in-Some.operator = c.kind-of.ensures in
-          let u : (c.in-ok-c.c.len - c.args.at.len) / 4 ≡ expr_size r.tree = units_are c.in-ok-c.c.len c.args.at.len (expr_size r.tree) (lb ∙ ap (λ (x : ℕ). x + 4 * expr_size r.tree) lt) in
-          let w : take (c.in-ok-c.c.len + 4) c.unit.new.out ≡ pre ++ code_of (build c.in-Some.operator e r.tree) =
-          pair_words c.unit.new.out c.chain.new.out c.args.out.now pre c.in-Some.operator e r.tree c.args.at.len c.in-ok-c.c.len _ h r.words (subst (λ (x : ℕ). take (c.in-ok-c.c.len + 4) c.unit.new.out ≡ take c.in-ok-c.c.len c.chain.new.out ++ (x ∷ ((c.in-ok-c.c.len - c.args.at.len) / 4) ∷ 0 ∷ 0 ∷ [])) k c.unit.ensures) u in
-          more_read c.args.level c.args.deep c.in-Some.operator e r.tree c.args.text.now c.args.at.pos c.token-at-found.result.next pre c.in-ok-c.c.pos c.more.new.out c.more.result j.joins_by a t (c.more.ensures.read pre (build c.in-Some.operator e r.tree) w);
+          let k : c.kind_of.result ≡ kind_of c.in-Some.operator = c.kind_of.ensures in
+          let u : (c.in_ok-c.c.len - c.args.at.len) / 4 ≡ expr_size r.tree = units_are c.in_ok-c.c.len c.args.at.len (expr_size r.tree) (lb ∙ ap (λ (x : ℕ). x + 4 * expr_size r.tree) lt) in
+          let w : take (c.in_ok-c.c.len + 4) c.unit.new.out ≡ pre ++ code_of (build c.in-Some.operator e r.tree) =
+          pair_words c.unit.new.out c.chain.new.out c.args.out.now pre c.in-Some.operator e r.tree c.args.at.len c.in_ok-c.c.len _ h r.words (subst (λ (x : ℕ). take (c.in_ok-c.c.len + 4) c.unit.new.out ≡ take c.in_ok-c.c.len c.chain.new.out ++ (x ∷ ((c.in_ok-c.c.len - c.args.at.len) / 4) ∷ 0 ∷ 0 ∷ [])) k c.unit.ensures) u in
+          more_read c.args.level c.args.deep c.in-Some.operator e r.tree c.args.text.now c.args.at.pos c.token_at-found.result.next pre c.in_ok-c.c.pos c.more.new.out c.more.result j.joins_by a t (c.more.ensures.read pre (build c.in-Some.operator e r.tree) w);
     }
 
-pub negation-returns-in-err-c : goal.negation-returns-in-err-c
-negation-returns-in-err-c ring c =
-    let q = err_from_is_err_and c.from-residual.result c.from-residual.ensures.1 in
-    rw q.1 (record { forth = tt; read = λ l h. not_bar c.args.deep (length c.unary.new.out) (length (take c.args.len c.args.out.now)) h c.in-err-c.ensures.read })
+pub negation-returns-in_err-c : goal.negation-returns-in_err-c
+negation-returns-in_err-c ring c =
+    let q = err_from_is_err_and c.from_residual.result c.from_residual.ensures.1 in
+    rw q.1 (record { forth = tt; read = λ l h. not_bar c.args.deep (length c.unary.new.out) (length (take c.args.len c.args.out.now)) h c.in_err-c.ensures.read })
 
 pub negation-returns-then-out-c-lt4 : goal.negation-returns-then-out-c-lt4
 negation-returns-then-out-c-lt4 ring c =
-    let f = c.in-ok-c.ensures.forth in
-    let r = c.in-ok-c.ensures.read in
+    let f = c.in_ok-c.ensures.forth in
+    let r = c.in_ok-c.ensures.read in
     record {
       forth = tt;
       read = λ l h.
-          let lb = words_long c.unary.new.out (take c.args.len c.args.out.now) r.tree c.in-ok-c.c.len r.words (omega (arith, f.3, c.unary.auto.out)) in
+          let lb = words_long c.unary.new.out (take c.args.len c.args.out.now) r.tree c.in_ok-c.c.len r.words (omega (arith, f.3, c.unary.auto.out)) in
           let bs = not_size r.tree in
           not_bar_here c.args.deep (length c.unary.new.out) (length (take c.args.len c.args.out.now)) r.tree h r.took (omega arith);
     }
 
 pub negation-returns : goal.negation-returns
 negation-returns ring c =
-    let f = c.in-ok-c.ensures.forth in
-    let r = c.in-ok-c.ensures.read in
+    let f = c.in_ok-c.ensures.forth in
+    let r = c.in_ok-c.ensures.read in
     record {
       forth = (omega arith, omega arith, omega arith, omega (arith, f.3, c.unary.auto.out));
-      read = λ l h. record { tree = Not r.tree; took = not_took c.args.deep r.tree h r.took; words = not_words c.unit.new.out c.unary.new.out (take c.args.len c.args.out.now) r.tree c.in-ok-c.c.len r.words c.unit.ensures };
+      read = λ l h. record { tree = Not r.tree; took = not_took c.args.deep r.tree h r.took; words = not_words c.unit.new.out c.unary.new.out (take c.args.len c.args.out.now) r.tree c.in_ok-c.c.len r.words c.unit.ensures };
     }
 
 pub unary-returns-in-Number : goal.unary-returns-in-Number
 unary-returns-in-Number ring c =
-    let ft = c.token-at-found.ensures.forth in
-    let t = opens_n c.token-at-found.result.token c.in-Number.n (sym c.opens.ensures ∙ c.in-Number.is) in
-    let a = c.token-at-found.ensures.ahead ∙ ap (λ (x : Token). both (means x (take (c.token-at-found.result.next - c.token-at-found.result.start) (drop c.token-at-found.result.start c.args.text.now))) (ahead c.args.text.now c.token-at-found.result.next)) t in
-    let o = onward c.args.at.pos c.token-at-found.result (length c.args.text.now) ft c.requires.within (ap taken t) in
-    leaf_read (expr_at Unary c.args.deep) (Lit c.in-Number.n) _ c.in-Number.n c.args.text.now c.args.at c.token-at-found.result.next c.args.out.now c.leaf.new.out c.leaf.result c.leaf.auto.out (number_took c.args.deep c.in-Number.n _ _ a) (lit_code c.in-Number.n) c.requires.room o.0 o.1 c.leaf.ensures
+    let ft = c.token_at-found.ensures.forth in
+    let t = opens_n c.token_at-found.result.token c.in-Number.n (sym c.opens.ensures ∙ c.in-Number.is) in
+    let a = c.token_at-found.ensures.ahead ∙ ap (λ (x : Token). both (means x (take (c.token_at-found.result.next - c.token_at-found.result.start) (drop c.token_at-found.result.start c.args.text.now))) (ahead c.args.text.now c.token_at-found.result.next)) t in
+    let o = onward c.args.at.pos c.token_at-found.result (length c.args.text.now) ft c.requires.within (ap taken t) in
+    leaf_read (expr_at Unary c.args.deep) (Lit c.in-Number.n) _ c.in-Number.n c.args.text.now c.args.at c.token_at-found.result.next c.args.out.now c.leaf.new.out c.leaf.result c.leaf.auto.out (number_took c.args.deep c.in-Number.n _ _ a) (lit_code c.in-Number.n) c.requires.room o.0 o.1 c.leaf.ensures
 
 pub unary-returns-in-Variable : goal.unary-returns-in-Variable
 unary-returns-in-Variable ring c =
-    let ft = c.token-at-found.ensures.forth in
-    let t = opens_v c.token-at-found.result.token c.in-Variable.v (sym c.opens.ensures ∙ c.in-Variable.is) in
-    let a = c.token-at-found.ensures.ahead ∙ ap (λ (x : Token). both (means x (take (c.token-at-found.result.next - c.token-at-found.result.start) (drop c.token-at-found.result.start c.args.text.now))) (ahead c.args.text.now c.token-at-found.result.next)) t in
-    let o = onward c.args.at.pos c.token-at-found.result (length c.args.text.now) ft c.requires.within (ap taken t) in
-    leaf_read (expr_at Unary c.args.deep) (Var c.in-Variable.v) _ c.in-Variable.v c.args.text.now c.args.at c.token-at-found.result.next c.args.out.now c.leaf-in-Variable.new.out c.leaf-in-Variable.result c.leaf-in-Variable.auto.out (variable_took c.args.deep c.in-Variable.v _ _ a) (var_code c.in-Variable.v) c.requires.room o.0 o.1 c.leaf-in-Variable.ensures
+    let ft = c.token_at-found.ensures.forth in
+    let t = opens_v c.token_at-found.result.token c.in-Variable.v (sym c.opens.ensures ∙ c.in-Variable.is) in
+    let a = c.token_at-found.ensures.ahead ∙ ap (λ (x : Token). both (means x (take (c.token_at-found.result.next - c.token_at-found.result.start) (drop c.token_at-found.result.start c.args.text.now))) (ahead c.args.text.now c.token_at-found.result.next)) t in
+    let o = onward c.args.at.pos c.token_at-found.result (length c.args.text.now) ft c.requires.within (ap taken t) in
+    leaf_read (expr_at Unary c.args.deep) (Var c.in-Variable.v) _ c.in-Variable.v c.args.text.now c.args.at c.token_at-found.result.next c.args.out.now c.leaf-in-Variable.new.out c.leaf-in-Variable.result c.leaf-in-Variable.auto.out (variable_took c.args.deep c.in-Variable.v _ _ a) (var_code c.in-Variable.v) c.requires.room o.0 o.1 c.leaf-in-Variable.ensures
 
 pub unary-returns-in-Nothing : goal.unary-returns-in-Nothing
-unary-returns-in-Nothing ring c = record { forth = tt; read = nothing_bar c.args.deep _ c.token-at-found.result.token _ _ _ c.token-at-found.ensures.ahead (stop_end c.args.text.now c.args.at.pos c.token-at-found.result c.token-at-found.ensures.forth) (sym c.opens.ensures ∙ c.in-Nothing.is) }
+unary-returns-in-Nothing ring c = record { forth = tt; read = nothing_bar c.args.deep _ c.token_at-found.result.token _ _ _ c.token_at-found.ensures.ahead (stop_end c.args.text.now c.args.at.pos c.token_at-found.result c.token_at-found.ensures.forth) (sym c.opens.ensures ∙ c.in-Nothing.is) }

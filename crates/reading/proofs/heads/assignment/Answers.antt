@@ -10,20 +10,20 @@ use Rattle.reading.proofs.Leveled.{no_room}
 use Rattle.reading.proofs.Steps.{step_took, step_bar, step_bar_first, step_refused, end_took, whole_read, further_onwards, onwards_more, with_words, with_bar, taken_all, set_read, set_draft, set_size}
 use Rattle.reading.proofs.heads.assignment.Goals as goal
 
-pub returns-in-err-v : goal.returns-in-err-v
-returns-in-err-v c =
-    let q = err_from_is_err_and c.from-residual.result c.from-residual.ensures.1 in
-    rw q.1 (record { forth = tt; read = step_refused one_variable set_behind _ c.in-err-v.ensures })
+pub returns-in_err-v : goal.returns-in_err-v
+returns-in_err-v c =
+    let q = err_from_is_err_and c.from_residual.result c.from_residual.ensures.1 in
+    rw q.1 (record { forth = tt; read = step_refused one_variable set_behind _ c.in_err-v.ensures })
 
-pub returns-in-err-next : goal.returns-in-err-next
-returns-in-err-next c =
-    let q = err_from_is_err_and c.from-residual-in-err-next.result c.from-residual-in-err-next.ensures.1 in
-    rw q.1 (record { forth = tt; read = step_bar one_variable set_behind c.in-ok-v.v.value _ c.in-ok-v.ensures.0 (step_refused one_same (λ x. expr_then (Set c.in-ok-v.v.value)) _ c.in-err-next.ensures) })
+pub returns-in_err-next : goal.returns-in_err-next
+returns-in_err-next c =
+    let q = err_from_is_err_and c.from_residual-in_err-next.result c.from_residual-in_err-next.ensures.1 in
+    rw q.1 (record { forth = tt; read = step_bar one_variable set_behind c.in_ok-v.v.value _ c.in_ok-v.ensures.0 (step_refused one_same (λ x. expr_then (Set c.in_ok-v.v.value)) _ c.in_err-next.ensures) })
 
 pub returns : goal.returns
 returns c =
-    let v = c.in-ok-v.v.value in
+    let v = c.in_ok-v.v.value in
     record {
-      forth = onwards_more c.with-expr.result _ _ c.args.pos c.args.len _ _ (omega (arith, c.in-ok-v.ensures.1, c.in-ok-next.ensures.1)) (le_refl _) c.with-expr.ensures.forth;
-      read = set_read c.with-expr.result v _ _ _ c.args.text.now (take c.args.len c.args.out.now) c.with-expr.new.out c.in-ok-v.ensures.0 c.in-ok-next.ensures.0 (c.with-expr.ensures.read (Set v) (set_draft v) (set_size v));
+      forth = onwards_more c.with_expr.result _ _ c.args.pos c.args.len _ _ (omega (arith, c.in_ok-v.ensures.1, c.in_ok-next.ensures.1)) (le_refl _) c.with_expr.ensures.forth;
+      read = set_read c.with_expr.result v _ _ _ c.args.text.now (take c.args.len c.args.out.now) c.with_expr.new.out c.in_ok-v.ensures.0 c.in_ok-next.ensures.0 (c.with_expr.ensures.read (Set v) (set_draft v) (set_size v));
     }

@@ -10,16 +10,16 @@ use Rattle.reading.proofs.Leveled.{no_room}
 use Rattle.reading.proofs.Steps.{step_took, step_bar, step_bar_first, step_refused, end_took, whole_read, further_onwards, onwards_more, with_words, with_bar, taken_all, set_read, set_draft, set_size}
 use Rattle.reading.proofs.heads.with_expr.Goals as goal
 
-pub returns-in-err-c : goal.returns-in-err-c
-returns-in-err-c c =
-    let q = err_from_is_err_and c.from-residual.result c.from-residual.ensures.1 in
-    rw q.1 (record { forth = tt; read = λ f d s. with_bar c.args.out.now c.headed.new.out c.args.len f _ s c.requires.room c.headed.auto.out c.in-err-c.ensures.read })
+pub returns-in_err-c : goal.returns-in_err-c
+returns-in_err-c c =
+    let q = err_from_is_err_and c.from_residual.result c.from_residual.ensures.1 in
+    rw q.1 (record { forth = tt; read = λ f d s. with_bar c.args.out.now c.headed.new.out c.args.len f _ s c.requires.room c.headed.auto.out c.in_err-c.ensures.read })
 
 pub returns : goal.returns
 returns c =
-    let f = c.in-ok-c.ensures.forth in
-    let r = c.in-ok-c.ensures.read in
+    let f = c.in_ok-c.ensures.forth in
+    let r = c.in_ok-c.ensures.read in
     record {
       forth = (omega arith, f.1, omega arith, f.3);
-      read = λ g d s. record { item = g r.tree; took = step_took whole_expr (λ e n i us. got (g e) us) r.tree (g r.tree) r.took (end_took (g r.tree) _); words = subst (λ (l : List ℕ). take c.in-ok-c.c.len l ≡ take c.args.len c.args.out.now ++ draft_stmt (g r.tree)) (sym c.head.ensures) (with_words c.args.out.now c.headed.new.out c.args.len c.in-ok-c.c.len c.args.kind c.args.second c.units.result g r.tree (d r.tree) r.words f.2 f.3 c.headed.auto.out c.units.ensures) };
+      read = λ g d s. record { item = g r.tree; took = step_took whole_expr (λ e n i us. got (g e) us) r.tree (g r.tree) r.took (end_took (g r.tree) _); words = subst (λ (l : List ℕ). take c.in_ok-c.c.len l ≡ take c.args.len c.args.out.now ++ draft_stmt (g r.tree)) (sym c.head.ensures) (with_words c.args.out.now c.headed.new.out c.args.len c.in_ok-c.c.len c.args.kind c.args.second c.units.result g r.tree (d r.tree) r.words f.2 f.3 c.headed.auto.out c.units.ensures) };
     }

@@ -12,97 +12,97 @@ use Rattle.reading.proofs.Steps.{step_refused, onwards_more}
 use Rattle.reading.proofs.Stated.{opened_bar, opened_open, opened_took, other_read, if_bar_condition, if_bar_first, if_bar_other, while_bar_condition, while_bar_body, guard_bar_first, guard_bar_other, if_took, while_took, guard_took, if_words, while_words, guard_words, no_room_part, long, by_key_lem, by_variable, no_statement, begins_set, begins_sleep, begins_if, begins_while, begins_guard, begins_return, begins_fail, begins_variable_lem, at_token, set_is, sleep_is, if_is, while_is, guard_is, return_is, fail_is, part_end, going, part_bar_first, sleep_draft, sleep_size, return_draft, return_size, fail_at, failure_onwards, failure_read, end_read, part_read, not_stop}
 use Rattle.reading.proofs.stmts.+fork_guarded_opened_other_part_statement_turning.Goals as goal
 
-pub opened-returns-in-err-first : goal.opened-returns-in-err-first
-opened-returns-in-err-first ring c =
-    let q = err_from_is_err_and c.from-residual.result c.from-residual.ensures.1 in
-    rw q.1 (record { forth = tt; read = step_refused (one_key BEGIN) (λ z. closed_at) _ c.in-err-first.ensures })
+pub opened-returns-in_err-first : goal.opened-returns-in_err-first
+opened-returns-in_err-first ring c =
+    let q = err_from_is_err_and c.from_residual.result c.from_residual.ensures.1 in
+    rw q.1 (record { forth = tt; read = step_refused (one_key BEGIN) (λ z. closed_at) _ c.in_err-first.ensures })
 
-pub opened-returns-in-err-c : goal.opened-returns-in-err-c
-opened-returns-in-err-c ring c =
-    let q = err_from_is_err_and c.from-residual-in-err-c.result c.from-residual-in-err-c.ensures.1 in
-    rw q.1 (record { forth = tt; read = opened_bar _ c.in-ok-first.ensures.0 c.in-err-c.ensures.read })
+pub opened-returns-in_err-c : goal.opened-returns-in_err-c
+opened-returns-in_err-c ring c =
+    let q = err_from_is_err_and c.from_residual-in_err-c.result c.from_residual-in_err-c.ensures.1 in
+    rw q.1 (record { forth = tt; read = opened_bar _ c.in_ok-first.ensures.0 c.in_err-c.ensures.read })
 
-pub opened-returns-in-err-next : goal.opened-returns-in-err-next
-opened-returns-in-err-next ring c =
-    let q = err_from_is_err_and c.from-residual-in-err-next.result c.from-residual-in-err-next.ensures.1 in
-    rw q.1 (record { forth = tt; read = opened_open c.in-ok-c.ensures.read.item _ c.in-ok-first.ensures.0 c.in-ok-c.ensures.read.took c.in-err-next.ensures })
+pub opened-returns-in_err-next : goal.opened-returns-in_err-next
+opened-returns-in_err-next ring c =
+    let q = err_from_is_err_and c.from_residual-in_err-next.result c.from_residual-in_err-next.ensures.1 in
+    rw q.1 (record { forth = tt; read = opened_open c.in_ok-c.ensures.read.item _ c.in_ok-first.ensures.0 c.in_ok-c.ensures.read.took c.in_err-next.ensures })
 
 pub opened-returns : goal.opened-returns
 opened-returns ring c =
-    let f = c.in-ok-c.ensures.forth in
-    let r = c.in-ok-c.ensures.read in
-    let a = c.in-ok-first.ensures in
-    let k = c.in-ok-next.ensures in
+    let f = c.in_ok-c.ensures.forth in
+    let r = c.in_ok-c.ensures.read in
+    let a = c.in_ok-first.ensures in
+    let k = c.in_ok-next.ensures in
     record {
       forth = (omega (arith, a.1, k.1, f.0), k.1.1, f.2, f.3);
       read = record { item = r.item; took = opened_took r.item a.0 r.took k.0; words = r.words };
     }
 
-pub other-returns-in-err-next : goal.other-returns-in-err-next
-other-returns-in-err-next ring c =
-    let q = err_from_is_err_and c.from-residual.result c.from-residual.ensures.1 in
-    rw q.1 (record { forth = tt; read = step_refused (one_key ELSE) (λ z. opened_at) _ c.in-err-next.ensures })
+pub other-returns-in_err-next : goal.other-returns-in_err-next
+other-returns-in_err-next ring c =
+    let q = err_from_is_err_and c.from_residual.result c.from_residual.ensures.1 in
+    rw q.1 (record { forth = tt; read = step_refused (one_key ELSE) (λ z. opened_at) _ c.in_err-next.ensures })
 
 pub other-returns : goal.other-returns
 other-returns ring c =
-    let a = c.in-ok-next.ensures in
+    let a = c.in_ok-next.ensures in
     record {
       forth = onwards_more c.opened.result _ _ c.args.pos c.args.len _ _ (omega (arith, a.1)) (le_refl _) c.opened.ensures.forth;
       read = other_read c.opened.result _ _ c.args.text.now (take c.args.len c.args.out.now) c.opened.new.out a.0 c.opened.ensures.read;
     }
 
-pub fork-returns-in-err-c : goal.fork-returns-in-err-c
-fork-returns-in-err-c ring c =
-    let q = err_from_is_err_and c.from-residual.result c.from-residual.ensures.1 in
-    rw q.1 (record { forth = tt; read = if_bar_condition c.args.out.now c.args.len (length c.headed.new.out) _ c.requires.room c.in-err-c.ensures.read })
+pub fork-returns-in_err-c : goal.fork-returns-in_err-c
+fork-returns-in_err-c ring c =
+    let q = err_from_is_err_and c.from_residual.result c.from_residual.ensures.1 in
+    rw q.1 (record { forth = tt; read = if_bar_condition c.args.out.now c.args.len (length c.headed.new.out) _ c.requires.room c.in_err-c.ensures.read })
 
-pub turning-returns-in-err-c : goal.turning-returns-in-err-c
-turning-returns-in-err-c ring c =
-    let q = err_from_is_err_and c.from-residual.result c.from-residual.ensures.1 in
-    rw q.1 (record { forth = tt; read = while_bar_condition c.args.out.now c.args.len (length c.headed.new.out) _ c.requires.room c.in-err-c.ensures.read })
+pub turning-returns-in_err-c : goal.turning-returns-in_err-c
+turning-returns-in_err-c ring c =
+    let q = err_from_is_err_and c.from_residual.result c.from_residual.ensures.1 in
+    rw q.1 (record { forth = tt; read = while_bar_condition c.args.out.now c.args.len (length c.headed.new.out) _ c.requires.room c.in_err-c.ensures.read })
 
-pub fork-returns-in-err-first : goal.fork-returns-in-err-first
-fork-returns-in-err-first ring c =
-    let q = err_from_is_err_and c.from-residual-in-err-first.result c.from-residual-in-err-first.ensures.1 in
-    let f = c.in-ok-c.ensures.forth in
-    let r = c.in-ok-c.ensures.read in
+pub fork-returns-in_err-first : goal.fork-returns-in_err-first
+fork-returns-in_err-first ring c =
+    let q = err_from_is_err_and c.from_residual-in_err-first.result c.from_residual-in_err-first.ensures.1 in
+    let f = c.in_ok-c.ensures.forth in
+    let r = c.in_ok-c.ensures.read in
     let t0 = length-take-le (c.args.len + 4) c.args.out.now (omega (arith, f.2, f.3)) in
-    let k1 = long code_of expr_size code_length c.headed.new.out (take (c.args.len + 4) c.args.out.now) r.tree c.in-ok-c.c.len r.words (omega (arith, f.3, c.headed.auto.out)) in
-    let t1 = length-take-le c.in-ok-c.c.len c.headed.new.out (omega (arith, f.3, c.headed.auto.out)) in
-    rw q.1 (record { forth = tt; read = if_bar_first c.args.out.now c.args.len (length c.opened.new.out) _ c.requires.room r.tree (length (take c.in-ok-c.c.len c.headed.new.out)) (omega arith) r.took c.in-err-first.ensures.read })
+    let k1 = long code_of expr_size code_length c.headed.new.out (take (c.args.len + 4) c.args.out.now) r.tree c.in_ok-c.c.len r.words (omega (arith, f.3, c.headed.auto.out)) in
+    let t1 = length-take-le c.in_ok-c.c.len c.headed.new.out (omega (arith, f.3, c.headed.auto.out)) in
+    rw q.1 (record { forth = tt; read = if_bar_first c.args.out.now c.args.len (length c.opened.new.out) _ c.requires.room r.tree (length (take c.in_ok-c.c.len c.headed.new.out)) (omega arith) r.took c.in_err-first.ensures.read })
 
-pub turning-returns-in-err-last : goal.turning-returns-in-err-last
-turning-returns-in-err-last ring c =
-    let q = err_from_is_err_and c.from-residual-in-err-last.result c.from-residual-in-err-last.ensures.1 in
-    let f = c.in-ok-c.ensures.forth in
-    let r = c.in-ok-c.ensures.read in
+pub turning-returns-in_err-last : goal.turning-returns-in_err-last
+turning-returns-in_err-last ring c =
+    let q = err_from_is_err_and c.from_residual-in_err-last.result c.from_residual-in_err-last.ensures.1 in
+    let f = c.in_ok-c.ensures.forth in
+    let r = c.in_ok-c.ensures.read in
     let t0 = length-take-le (c.args.len + 4) c.args.out.now (omega (arith, f.2, f.3)) in
-    let k1 = long code_of expr_size code_length c.headed.new.out (take (c.args.len + 4) c.args.out.now) r.tree c.in-ok-c.c.len r.words (omega (arith, f.3, c.headed.auto.out)) in
-    let t1 = length-take-le c.in-ok-c.c.len c.headed.new.out (omega (arith, f.3, c.headed.auto.out)) in
-    rw q.1 (record { forth = tt; read = while_bar_body c.args.out.now c.args.len (length c.opened.new.out) _ c.requires.room r.tree (length (take c.in-ok-c.c.len c.headed.new.out)) (omega arith) r.took c.in-err-last.ensures.read })
+    let k1 = long code_of expr_size code_length c.headed.new.out (take (c.args.len + 4) c.args.out.now) r.tree c.in_ok-c.c.len r.words (omega (arith, f.3, c.headed.auto.out)) in
+    let t1 = length-take-le c.in_ok-c.c.len c.headed.new.out (omega (arith, f.3, c.headed.auto.out)) in
+    rw q.1 (record { forth = tt; read = while_bar_body c.args.out.now c.args.len (length c.opened.new.out) _ c.requires.room r.tree (length (take c.in_ok-c.c.len c.headed.new.out)) (omega arith) r.took c.in_err-last.ensures.read })
 
-pub fork-returns-in-err-last : goal.fork-returns-in-err-last
-fork-returns-in-err-last ring c =
-    let q = err_from_is_err_and c.from-residual-in-err-last.result c.from-residual-in-err-last.ensures.1 in
-    let f = c.in-ok-c.ensures.forth in
-    let r = c.in-ok-c.ensures.read in
+pub fork-returns-in_err-last : goal.fork-returns-in_err-last
+fork-returns-in_err-last ring c =
+    let q = err_from_is_err_and c.from_residual-in_err-last.result c.from_residual-in_err-last.ensures.1 in
+    let f = c.in_ok-c.ensures.forth in
+    let r = c.in_ok-c.ensures.read in
     let t0 = length-take-le (c.args.len + 4) c.args.out.now (omega (arith, f.2, f.3)) in
-    let k1 = long code_of expr_size code_length c.headed.new.out (take (c.args.len + 4) c.args.out.now) r.tree c.in-ok-c.c.len r.words (omega (arith, f.3, c.headed.auto.out)) in
-    let t1 = length-take-le c.in-ok-c.c.len c.headed.new.out (omega (arith, f.3, c.headed.auto.out)) in
-    let fa = c.in-ok-first.ensures.forth in
-    let ra = c.in-ok-first.ensures.read in
-    let k2 = long draft_of size_of draft_length c.opened.new.out (take c.in-ok-c.c.len c.headed.new.out) ra.item c.in-ok-first.first.len ra.words (omega (arith, fa.3, c.opened.auto.out)) in
-    let t2 = length-take-le c.in-ok-first.first.len c.opened.new.out (omega (arith, fa.3, c.opened.auto.out)) in
-    rw q.1 (record { forth = tt; read = if_bar_other c.args.out.now c.args.len (length c.other.new.out) _ c.requires.room r.tree ra.item (length (take c.in-ok-first.first.len c.opened.new.out)) (omega arith) r.took ra.took c.in-err-last.ensures.read })
+    let k1 = long code_of expr_size code_length c.headed.new.out (take (c.args.len + 4) c.args.out.now) r.tree c.in_ok-c.c.len r.words (omega (arith, f.3, c.headed.auto.out)) in
+    let t1 = length-take-le c.in_ok-c.c.len c.headed.new.out (omega (arith, f.3, c.headed.auto.out)) in
+    let fa = c.in_ok-first.ensures.forth in
+    let ra = c.in_ok-first.ensures.read in
+    let k2 = long draft_of size_of draft_length c.opened.new.out (take c.in_ok-c.c.len c.headed.new.out) ra.item c.in_ok-first.first.len ra.words (omega (arith, fa.3, c.opened.auto.out)) in
+    let t2 = length-take-le c.in_ok-first.first.len c.opened.new.out (omega (arith, fa.3, c.opened.auto.out)) in
+    rw q.1 (record { forth = tt; read = if_bar_other c.args.out.now c.args.len (length c.other.new.out) _ c.requires.room r.tree ra.item (length (take c.in_ok-first.first.len c.opened.new.out)) (omega arith) r.took ra.took c.in_err-last.ensures.read })
 
 pub fork-returns : goal.fork-returns
 fork-returns ring c =
-    let f = c.in-ok-c.ensures.forth in
-    let r = c.in-ok-c.ensures.read in
-    let fa = c.in-ok-first.ensures.forth in
-    let ra = c.in-ok-first.ensures.read in
-    let fb = c.in-ok-last.ensures.forth in
-    let rb = c.in-ok-last.ensures.read in
+    let f = c.in_ok-c.ensures.forth in
+    let r = c.in_ok-c.ensures.read in
+    let fa = c.in_ok-first.ensures.forth in
+    let ra = c.in_ok-first.ensures.read in
+    let fb = c.in_ok-last.ensures.forth in
+    let rb = c.in_ok-last.ensures.read in
     let s1 : length c.headed.new.out ≡ length c.args.out.now = c.headed.auto.out in
     let s2 : length c.opened.new.out ≡ length c.args.out.now = c.opened.auto.out ∙ s1 in
     let s3 : length c.other.new.out ≡ length c.args.out.now = c.other.auto.out ∙ s2 in
@@ -111,17 +111,17 @@ fork-returns ring c =
       read = record {
         item = If r.tree ra.item rb.item;
         took = if_took r.tree ra.item rb.item r.took ra.took rb.took;
-        words = subst (λ (y : List ℕ). take c.in-ok-last.last.len y ≡ take c.args.len c.args.out.now ++ draft_stmt (If r.tree ra.item rb.item)) (sym c.head.ensures)
-            (if_words c.args.out.now c.headed.new.out c.opened.new.out c.other.new.out c.args.len c.in-ok-c.c.len c.in-ok-first.first.len c.in-ok-last.last.len _ _ _ r.tree ra.item rb.item r.words ra.words rb.words (omega arith) (omega arith) (omega arith) (omega (arith, fb.3)) s1 s2 s3 c.units.ensures c.units-2.ensures c.units-3.ensures);
+        words = subst (λ (y : List ℕ). take c.in_ok-last.last.len y ≡ take c.args.len c.args.out.now ++ draft_stmt (If r.tree ra.item rb.item)) (sym c.head.ensures)
+            (if_words c.args.out.now c.headed.new.out c.opened.new.out c.other.new.out c.args.len c.in_ok-c.c.len c.in_ok-first.first.len c.in_ok-last.last.len _ _ _ r.tree ra.item rb.item r.words ra.words rb.words (omega arith) (omega arith) (omega arith) (omega (arith, fb.3)) s1 s2 s3 c.units.ensures c.units-2.ensures c.units-3.ensures);
       };
     }
 
 pub turning-returns : goal.turning-returns
 turning-returns ring c =
-    let f = c.in-ok-c.ensures.forth in
-    let r = c.in-ok-c.ensures.read in
-    let fa = c.in-ok-last.ensures.forth in
-    let ra = c.in-ok-last.ensures.read in
+    let f = c.in_ok-c.ensures.forth in
+    let r = c.in_ok-c.ensures.read in
+    let fa = c.in_ok-last.ensures.forth in
+    let ra = c.in_ok-last.ensures.read in
     let s1 : length c.headed.new.out ≡ length c.args.out.now = c.headed.auto.out in
     let s2 : length c.opened.new.out ≡ length c.args.out.now = c.opened.auto.out ∙ s1 in
     record {
@@ -129,36 +129,36 @@ turning-returns ring c =
       read = record {
         item = While r.tree ra.item;
         took = while_took r.tree ra.item r.took ra.took;
-        words = subst (λ (y : List ℕ). take c.in-ok-last.last.len y ≡ take c.args.len c.args.out.now ++ draft_stmt (While r.tree ra.item)) (sym c.head.ensures)
-            (while_words c.args.out.now c.headed.new.out c.opened.new.out c.args.len c.in-ok-c.c.len c.in-ok-last.last.len _ _ r.tree ra.item r.words ra.words (omega arith) (omega arith) (omega (arith, fa.3)) s1 s2 c.units.ensures c.units-2.ensures);
+        words = subst (λ (y : List ℕ). take c.in_ok-last.last.len y ≡ take c.args.len c.args.out.now ++ draft_stmt (While r.tree ra.item)) (sym c.head.ensures)
+            (while_words c.args.out.now c.headed.new.out c.opened.new.out c.args.len c.in_ok-c.c.len c.in_ok-last.last.len _ _ r.tree ra.item r.words ra.words (omega arith) (omega arith) (omega (arith, fa.3)) s1 s2 c.units.ensures c.units-2.ensures);
       };
     }
 
 pub guarded-returns-then-out-len-lt4 : goal.guarded-returns-then-out-len-lt4
 guarded-returns-then-out-len-lt4 ring c = record { forth = tt; read = guard_bar_first c.args.out.now c.args.len (length c.args.out.now) _ c.requires.room (c.args.len + 4) refl (no_room_part opened_at _ _ _ (omega arith)) }
 
-pub guarded-returns-in-err-first : goal.guarded-returns-in-err-first
-guarded-returns-in-err-first ring c =
-    let q = err_from_is_err_and c.from-residual.result c.from-residual.ensures.1 in
+pub guarded-returns-in_err-first : goal.guarded-returns-in_err-first
+guarded-returns-in_err-first ring c =
+    let q = err_from_is_err_and c.from_residual.result c.from_residual.ensures.1 in
     let t0 = length-take-le (c.args.len + 4) c.args.out.now (omega arith) in
-    rw q.1 (record { forth = tt; read = guard_bar_first c.args.out.now c.args.len (length c.opened.new.out) _ c.requires.room (length (take (c.args.len + 4) c.args.out.now)) t0 c.in-err-first.ensures.read })
+    rw q.1 (record { forth = tt; read = guard_bar_first c.args.out.now c.args.len (length c.opened.new.out) _ c.requires.room (length (take (c.args.len + 4) c.args.out.now)) t0 c.in_err-first.ensures.read })
 
-pub guarded-returns-in-err-last : goal.guarded-returns-in-err-last
-guarded-returns-in-err-last ring c =
-    let q = err_from_is_err_and c.from-residual-in-err-last.result c.from-residual-in-err-last.ensures.1 in
-    let fa = c.in-ok-first.ensures.forth in
-    let ra = c.in-ok-first.ensures.read in
+pub guarded-returns-in_err-last : goal.guarded-returns-in_err-last
+guarded-returns-in_err-last ring c =
+    let q = err_from_is_err_and c.from_residual-in_err-last.result c.from_residual-in_err-last.ensures.1 in
+    let fa = c.in_ok-first.ensures.forth in
+    let ra = c.in_ok-first.ensures.read in
     let t0 = length-take-le (c.args.len + 4) c.args.out.now (omega arith) in
-    let k2 = long draft_of size_of draft_length c.opened.new.out (take (c.args.len + 4) c.args.out.now) ra.item c.in-ok-first.first.len ra.words (omega (arith, fa.3, c.opened.auto.out)) in
-    let t2 = length-take-le c.in-ok-first.first.len c.opened.new.out (omega (arith, fa.3, c.opened.auto.out)) in
-    rw q.1 (record { forth = tt; read = guard_bar_other c.args.out.now c.args.len (length c.other.new.out) _ c.requires.room ra.item (length (take c.in-ok-first.first.len c.opened.new.out)) (omega arith) ra.took c.in-err-last.ensures.read })
+    let k2 = long draft_of size_of draft_length c.opened.new.out (take (c.args.len + 4) c.args.out.now) ra.item c.in_ok-first.first.len ra.words (omega (arith, fa.3, c.opened.auto.out)) in
+    let t2 = length-take-le c.in_ok-first.first.len c.opened.new.out (omega (arith, fa.3, c.opened.auto.out)) in
+    rw q.1 (record { forth = tt; read = guard_bar_other c.args.out.now c.args.len (length c.other.new.out) _ c.requires.room ra.item (length (take c.in_ok-first.first.len c.opened.new.out)) (omega arith) ra.took c.in_err-last.ensures.read })
 
 pub guarded-returns : goal.guarded-returns
 guarded-returns ring c =
-    let fa = c.in-ok-first.ensures.forth in
-    let ra = c.in-ok-first.ensures.read in
-    let fb = c.in-ok-last.ensures.forth in
-    let rb = c.in-ok-last.ensures.read in
+    let fa = c.in_ok-first.ensures.forth in
+    let ra = c.in_ok-first.ensures.read in
+    let fb = c.in_ok-last.ensures.forth in
+    let rb = c.in_ok-last.ensures.read in
     let s2 : length c.opened.new.out ≡ length c.args.out.now = c.opened.auto.out in
     let s3 : length c.other.new.out ≡ length c.args.out.now = c.other.auto.out ∙ s2 in
     record {
@@ -166,8 +166,8 @@ guarded-returns ring c =
       read = record {
         item = Guard ra.item rb.item;
         took = guard_took ra.item rb.item ra.took rb.took;
-        words = subst (λ (y : List ℕ). take c.in-ok-last.last.len y ≡ take c.args.len c.args.out.now ++ draft_stmt (Guard ra.item rb.item)) (sym c.head.ensures)
-            (guard_words c.args.out.now c.opened.new.out c.other.new.out c.args.len c.in-ok-first.first.len c.in-ok-last.last.len _ _ ra.item rb.item ra.words rb.words (omega arith) (omega arith) (omega (arith, fb.3)) s2 s3 c.units.ensures c.units-2.ensures);
+        words = subst (λ (y : List ℕ). take c.in_ok-last.last.len y ≡ take c.args.len c.args.out.now ++ draft_stmt (Guard ra.item rb.item)) (sym c.head.ensures)
+            (guard_words c.args.out.now c.opened.new.out c.other.new.out c.args.len c.in_ok-first.first.len c.in_ok-last.last.len _ _ ra.item rb.item ra.words rb.words (omega arith) (omega arith) (omega (arith, fb.3)) s2 s3 c.units.ensures c.units-2.ensures);
       };
     }
 
@@ -179,8 +179,8 @@ statement-returns-in-Set ring c = record {
 
 pub statement-returns-in-Sleep : goal.statement-returns-in-Sleep
 statement-returns-in-Sleep ring c = record {
-  forth = c.with-expr.ensures.forth;
-  read = λ l h s. by_key_lem SLEEP (expr_then Sleep) sleep_is c.with-expr.result l (ahead c.args.text.now c.args.found.next) c.args.text.now (take c.args.len c.args.out.now) c.with-expr.new.out (at_token c.args.found.token _ (take (c.args.found.next - c.args.found.start) (drop c.args.found.start c.args.text.now)) l _ h (begins_sleep c.args.found.token (sym c.begins.ensures ∙ c.in-Sleep.is))) (c.with-expr.ensures.read Sleep sleep_draft sleep_size);
+  forth = c.with_expr.ensures.forth;
+  read = λ l h s. by_key_lem SLEEP (expr_then Sleep) sleep_is c.with_expr.result l (ahead c.args.text.now c.args.found.next) c.args.text.now (take c.args.len c.args.out.now) c.with_expr.new.out (at_token c.args.found.token _ (take (c.args.found.next - c.args.found.start) (drop c.args.found.start c.args.text.now)) l _ h (begins_sleep c.args.found.token (sym c.begins.ensures ∙ c.in-Sleep.is))) (c.with_expr.ensures.read Sleep sleep_draft sleep_size);
 }
 
 pub statement-returns-in-If : goal.statement-returns-in-If
@@ -203,8 +203,8 @@ statement-returns-in-Guard ring c = record {
 
 pub statement-returns-in-Return : goal.statement-returns-in-Return
 statement-returns-in-Return ring c = record {
-  forth = c.with-expr-in-Return.ensures.forth;
-  read = λ l h s. by_key_lem RETURN (expr_then Return) return_is c.with-expr-in-Return.result l (ahead c.args.text.now c.args.found.next) c.args.text.now (take c.args.len c.args.out.now) c.with-expr-in-Return.new.out (at_token c.args.found.token _ (take (c.args.found.next - c.args.found.start) (drop c.args.found.start c.args.text.now)) l _ h (begins_return c.args.found.token (sym c.begins.ensures ∙ c.in-Return.is))) (c.with-expr-in-Return.ensures.read Return return_draft return_size);
+  forth = c.with_expr-in-Return.ensures.forth;
+  read = λ l h s. by_key_lem RETURN (expr_then Return) return_is c.with_expr-in-Return.result l (ahead c.args.text.now c.args.found.next) c.args.text.now (take c.args.len c.args.out.now) c.with_expr-in-Return.new.out (at_token c.args.found.token _ (take (c.args.found.next - c.args.found.start) (drop c.args.found.start c.args.text.now)) l _ h (begins_return c.args.found.token (sym c.begins.ensures ∙ c.in-Return.is))) (c.with_expr-in-Return.ensures.read Return return_draft return_size);
 }
 
 pub statement-returns-in-Fail : goal.statement-returns-in-Fail
@@ -215,8 +215,8 @@ statement-returns-in-Fail ring c = record {
 
 pub statement-returns-in-Variable : goal.statement-returns-in-Variable
 statement-returns-in-Variable ring c = record {
-  forth = c.behind-variable.ensures.forth;
-  read = λ l h s. by_variable c.in-Variable.v c.behind-variable.result l (ahead c.args.text.now c.args.found.next) c.args.text.now (take c.args.len c.args.out.now) c.behind-variable.new.out (at_token c.args.found.token _ (take (c.args.found.next - c.args.found.start) (drop c.args.found.start c.args.text.now)) l _ h (begins_variable_lem c.args.found.token c.in-Variable.v (sym c.begins.ensures ∙ c.in-Variable.is))) c.behind-variable.ensures.read;
+  forth = c.behind_variable.ensures.forth;
+  read = λ l h s. by_variable c.in-Variable.v c.behind_variable.result l (ahead c.args.text.now c.args.found.next) c.args.text.now (take c.args.len c.args.out.now) c.behind_variable.new.out (at_token c.args.found.token _ (take (c.args.found.next - c.args.found.start) (drop c.args.found.start c.args.text.now)) l _ h (begins_variable_lem c.args.found.token c.in-Variable.v (sym c.begins.ensures ∙ c.in-Variable.is))) c.behind_variable.ensures.read;
 }
 
 pub statement-returns-in-Nothing : goal.statement-returns-in-Nothing
@@ -224,33 +224,33 @@ statement-returns-in-Nothing ring c = record { forth = tt; read = λ l h s. no_s
 
 pub part-returns-then-ends : goal.part-returns-then-ends
 part-returns-then-ends ring c =
-    let f = c.token-at-found.ensures.forth in
-    end_read c.args.text.now c.args.at c.token-at-found.result.start c.args.out.now c.leaf.new.out c.leaf.result f.after (omega (arith, f.order, f.within c.requires.within)) c.token-at-found.ensures.start c.requires.room c.leaf.auto.out (part_end c.token-at-found.result.token _ _ _ c.token-at-found.ensures.ahead (stop_end c.args.text.now c.args.at.pos c.token-at-found.result c.token-at-found.ensures.forth) (sym c.ends.ensures ∙ c.if-ends.true)) c.leaf.ensures
+    let f = c.token_at-found.ensures.forth in
+    end_read c.args.text.now c.args.at c.token_at-found.result.start c.args.out.now c.leaf.new.out c.leaf.result f.after (omega (arith, f.order, f.within c.requires.within)) c.token_at-found.ensures.start c.requires.room c.leaf.auto.out (part_end c.token_at-found.result.token _ _ _ c.token_at-found.ensures.ahead (stop_end c.args.text.now c.args.at.pos c.token_at-found.result c.token_at-found.ensures.forth) (sym c.ends.ensures ∙ c.if-ends.true)) c.leaf.ensures
 
-pub part-returns-in-err-c : goal.part-returns-in-err-c
-part-returns-in-err-c ring c =
-    let q = err_from_is_err_and c.from-residual.result c.from-residual.ensures.1 in
-    rw q.1 (record { forth = tt; read = part_bar_first (length c.statement.new.out) (length (take c.args.at.len c.args.out.now)) (going c.token-at-found.result.token (take (c.token-at-found.result.next - c.token-at-found.result.start) (drop c.token-at-found.result.start c.args.text.now)) (ahead c.args.text.now c.args.at.pos) (ahead c.args.text.now c.token-at-found.result.next) c.token-at-found.ensures.ahead (sym c.ends.ensures ∙ c.if-ends.false)) (c.in-err-c.ensures.read _ c.token-at-found.ensures.ahead (stop_end c.args.text.now c.args.at.pos c.token-at-found.result c.token-at-found.ensures.forth)) })
+pub part-returns-in_err-c : goal.part-returns-in_err-c
+part-returns-in_err-c ring c =
+    let q = err_from_is_err_and c.from_residual.result c.from_residual.ensures.1 in
+    rw q.1 (record { forth = tt; read = part_bar_first (length c.statement.new.out) (length (take c.args.at.len c.args.out.now)) (going c.token_at-found.result.token (take (c.token_at-found.result.next - c.token_at-found.result.start) (drop c.token_at-found.result.start c.args.text.now)) (ahead c.args.text.now c.args.at.pos) (ahead c.args.text.now c.token_at-found.result.next) c.token_at-found.ensures.ahead (sym c.ends.ensures ∙ c.if-ends.false)) (c.in_err-c.ensures.read _ c.token_at-found.ensures.ahead (stop_end c.args.text.now c.args.at.pos c.token_at-found.result c.token_at-found.ensures.forth)) })
 
 pub part-returns : goal.part-returns
 part-returns ring c =
-    let f = c.in-ok-c.ensures.forth in
-    let ft = c.token-at-found.ensures.forth in
-    let r = c.in-ok-c.ensures.read _ c.token-at-found.ensures.ahead (stop_end c.args.text.now c.args.at.pos c.token-at-found.result c.token-at-found.ensures.forth) in
-    part_read c.part.result c.args.text.now c.args.at c.in-ok-c.c c.args.out.now c.statement.new.out c.part.new.out r.item (going c.token-at-found.result.token (take (c.token-at-found.result.next - c.token-at-found.result.start) (drop c.token-at-found.result.start c.args.text.now)) (ahead c.args.text.now c.args.at.pos) (ahead c.args.text.now c.token-at-found.result.next) c.token-at-found.ensures.ahead (sym c.ends.ensures ∙ c.if-ends.false)) c.requires.room (omega (arith, ft.after, ft.order, f.0)) f.2 f.3 c.statement.auto.out c.part.auto.out r.took r.words c.part.ensures.forth c.part.ensures.read
+    let f = c.in_ok-c.ensures.forth in
+    let ft = c.token_at-found.ensures.forth in
+    let r = c.in_ok-c.ensures.read _ c.token_at-found.ensures.ahead (stop_end c.args.text.now c.args.at.pos c.token_at-found.result c.token_at-found.ensures.forth) in
+    part_read c.part.result c.args.text.now c.args.at c.in_ok-c.c c.args.out.now c.statement.new.out c.part.new.out r.item (going c.token_at-found.result.token (take (c.token_at-found.result.next - c.token_at-found.result.start) (drop c.token_at-found.result.start c.args.text.now)) (ahead c.args.text.now c.args.at.pos) (ahead c.args.text.now c.token_at-found.result.next) c.token_at-found.ensures.ahead (sym c.ends.ensures ∙ c.if-ends.false)) c.requires.room (omega (arith, ft.after, ft.order, f.0)) f.2 f.3 c.statement.auto.out c.part.auto.out r.took r.words c.part.ensures.forth c.part.ensures.read
 
 pub part-statement-requires : goal.part-statement-requires
 part-statement-requires ring c κs =
-    let f = c.token-at-found.ensures.forth in
-    let m = f.moves (not_stop c.token-at-found.result.token (sym c.ends.ensures ∙ c.if-ends.false)) in
+    let f = c.token_at-found.ensures.forth in
+    let m = f.moves (not_stop c.token_at-found.result.token (sym c.ends.ensures ∙ c.if-ends.false)) in
     let w = f.within c.requires.within in
     let a = f.after in
     (omega arith, (w, c.requires.room))
 
 pub part-part-requires : goal.part-part-requires
 part-part-requires ring c κs =
-    let f = c.token-at-found.ensures.forth in
-    let m = f.moves (not_stop c.token-at-found.result.token (sym c.ends.ensures ∙ c.if-ends.false)) in
+    let f = c.token_at-found.ensures.forth in
+    let m = f.moves (not_stop c.token_at-found.result.token (sym c.ends.ensures ∙ c.if-ends.false)) in
     let a = f.after in
-    let g = c.in-ok-c.ensures.forth in
+    let g = c.in_ok-c.ensures.forth in
     (omega arith, (g.1, omega (arith, g.3, c.statement.auto.out)))

@@ -18,34 +18,34 @@ use Rattle.reading.proofs.tasks.+more_arguments.Goals as goal
 
 pub returns-then-closes : goal.returns-then-closes
 returns-then-closes ring c =
-    let t = close_token c.token-at-found.result.token (sym c.closes.ensures ∙ c.if-closes.true) in
-    let a = c.token-at-found.ensures.ahead ∙ ap (λ (x : Token). both (means x (take (c.token-at-found.result.next - c.token-at-found.result.start) (drop c.token-at-found.result.start c.args.text.now))) (ahead c.args.text.now c.token-at-found.result.next)) t in
-    let o = onward c.args.at.pos c.token-at-found.result (length c.args.text.now) c.token-at-found.ensures.forth c.requires.within (ap taken t) in
+    let t = close_token c.token_at-found.result.token (sym c.closes.ensures ∙ c.if-closes.true) in
+    let a = c.token_at-found.ensures.ahead ∙ ap (λ (x : Token). both (means x (take (c.token_at-found.result.next - c.token_at-found.result.start) (drop c.token_at-found.result.start c.args.text.now))) (ahead c.args.text.now c.token_at-found.result.next)) t in
+    let o = onward c.args.at.pos c.token_at-found.result (length c.args.text.now) c.token_at-found.ensures.forth c.requires.within (ap taken t) in
     record {
       forth = (o.0, o.1, le_refl _, c.requires.room);
       read = record { items = []; took = args_close _ _ a; words = no_args_words c.args.out.now c.args.at.len; counted = omega arith; few = c.requires.few };
     }
 
-pub returns-in-err-next : goal.returns-in-err-next
-returns-in-err-next ring c =
-    let q = err_from_is_err_and c.from-residual.result c.from-residual.ensures.1 in
-    rw q.1 (record { forth = tt; read = args_bar_comma _ (still_open c.token-at-found.result.token (take (c.token-at-found.result.next - c.token-at-found.result.start) (drop c.token-at-found.result.start c.args.text.now)) (ahead c.args.text.now c.args.at.pos) (ahead c.args.text.now c.token-at-found.result.next) c.token-at-found.ensures.ahead (stop_end c.args.text.now c.args.at.pos c.token-at-found.result c.token-at-found.ensures.forth) (sym c.closes.ensures ∙ c.if-closes.false)) c.in-err-next.ensures })
+pub returns-in_err-next : goal.returns-in_err-next
+returns-in_err-next ring c =
+    let q = err_from_is_err_and c.from_residual.result c.from_residual.ensures.1 in
+    rw q.1 (record { forth = tt; read = args_bar_comma _ (still_open c.token_at-found.result.token (take (c.token_at-found.result.next - c.token_at-found.result.start) (drop c.token_at-found.result.start c.args.text.now)) (ahead c.args.text.now c.args.at.pos) (ahead c.args.text.now c.token_at-found.result.next) c.token_at-found.ensures.ahead (stop_end c.args.text.now c.args.at.pos c.token_at-found.result c.token_at-found.ensures.forth) (sym c.closes.ensures ∙ c.if-closes.false)) c.in_err-next.ensures })
 
-pub returns-then-count-ge-MOST-ARGUMENTS : goal.returns-then-count-ge-MOST-ARGUMENTS
-returns-then-count-ge-MOST-ARGUMENTS ring c = record { forth = tt; read = args_bar_many _ _ c.args.count _ (still_open c.token-at-found.result.token (take (c.token-at-found.result.next - c.token-at-found.result.start) (drop c.token-at-found.result.start c.args.text.now)) (ahead c.args.text.now c.args.at.pos) (ahead c.args.text.now c.token-at-found.result.next) c.token-at-found.ensures.ahead (stop_end c.args.text.now c.args.at.pos c.token-at-found.result c.token-at-found.ensures.forth) (sym c.closes.ensures ∙ c.if-closes.false)) c.if-count-ge-MOST-ARGUMENTS.true }
+pub returns-then-count-ge-MOST_ARGUMENTS : goal.returns-then-count-ge-MOST_ARGUMENTS
+returns-then-count-ge-MOST_ARGUMENTS ring c = record { forth = tt; read = args_bar_many _ _ c.args.count _ (still_open c.token_at-found.result.token (take (c.token_at-found.result.next - c.token_at-found.result.start) (drop c.token_at-found.result.start c.args.text.now)) (ahead c.args.text.now c.args.at.pos) (ahead c.args.text.now c.token_at-found.result.next) c.token_at-found.ensures.ahead (stop_end c.args.text.now c.args.at.pos c.token_at-found.result c.token_at-found.ensures.forth) (sym c.closes.ensures ∙ c.if-closes.false)) c.if-count-ge-MOST_ARGUMENTS.true }
 
-pub returns-in-err-c : goal.returns-in-err-c
-returns-in-err-c ring c =
-    let q = err_from_is_err_and c.from-residual-in-err-c.result c.from-residual-in-err-c.ensures.1 in
-    rw q.1 (record { forth = tt; read = args_bar_expr (length c.chain.new.out) (length (take c.args.at.len c.args.out.now)) c.args.count (still_open c.token-at-found.result.token (take (c.token-at-found.result.next - c.token-at-found.result.start) (drop c.token-at-found.result.start c.args.text.now)) (ahead c.args.text.now c.args.at.pos) (ahead c.args.text.now c.token-at-found.result.next) c.token-at-found.ensures.ahead (stop_end c.args.text.now c.args.at.pos c.token-at-found.result c.token-at-found.ensures.forth) (sym c.closes.ensures ∙ c.if-closes.false)) c.in-ok-next.ensures.0 (whole_read (Err c.in-err-c.field-0.0) c.args.text.now c.in-ok-next.next (take c.args.at.len c.args.out.now) c.chain.new.out c.in-err-c.ensures.read) })
+pub returns-in_err-c : goal.returns-in_err-c
+returns-in_err-c ring c =
+    let q = err_from_is_err_and c.from_residual-in_err-c.result c.from_residual-in_err-c.ensures.1 in
+    rw q.1 (record { forth = tt; read = args_bar_expr (length c.chain.new.out) (length (take c.args.at.len c.args.out.now)) c.args.count (still_open c.token_at-found.result.token (take (c.token_at-found.result.next - c.token_at-found.result.start) (drop c.token_at-found.result.start c.args.text.now)) (ahead c.args.text.now c.args.at.pos) (ahead c.args.text.now c.token_at-found.result.next) c.token_at-found.ensures.ahead (stop_end c.args.text.now c.args.at.pos c.token_at-found.result c.token_at-found.ensures.forth) (sym c.closes.ensures ∙ c.if-closes.false)) c.in_ok-next.ensures.0 (whole_read (Err c.in_err-c.field-0.0) c.args.text.now c.in_ok-next.next (take c.args.at.len c.args.out.now) c.chain.new.out c.in_err-c.ensures.read) })
 
 pub returns : goal.returns
 returns ring c =
-    let f = c.in-ok-c.ensures.forth in
-    let w = whole_read (Ok c.in-ok-c.c) c.args.text.now c.in-ok-next.next (take c.args.at.len c.args.out.now) c.chain.new.out c.in-ok-c.ensures.read in
-    let n = c.in-ok-next.ensures in
+    let f = c.in_ok-c.ensures.forth in
+    let w = whole_read (Ok c.in_ok-c.c) c.args.text.now c.in_ok-next.next (take c.args.at.len c.args.out.now) c.chain.new.out c.in_ok-c.ensures.read in
+    let n = c.in_ok-next.ensures in
     record {
-      forth = args_on c.more-arguments.result _ _ c.args.at.pos c.args.at.len _ _ (length c.args.out.now) (omega (arith, n.1, f.0)) f.2 c.chain.auto.out c.more-arguments.ensures.forth;
-      read = args_read c.more-arguments.result args_at args_at w.tree _ _ c.args.text.now c.args.out.now c.chain.new.out c.more-arguments.new.out c.args.at.len c.in-ok-c.c.len c.args.count c.requires.room (omega (arith, f.3, c.chain.auto.out)) c.chain.auto.out c.more-arguments.auto.out w.words
-          (λ es k y. args_took w.tree es (still_open c.token-at-found.result.token (take (c.token-at-found.result.next - c.token-at-found.result.start) (drop c.token-at-found.result.start c.args.text.now)) (ahead c.args.text.now c.args.at.pos) (ahead c.args.text.now c.token-at-found.result.next) c.token-at-found.ensures.ahead (stop_end c.args.text.now c.args.at.pos c.token-at-found.result c.token-at-found.ensures.forth) (sym c.closes.ensures ∙ c.if-closes.false)) n.0 w.took y) (λ at is y. args_bar_rest (length c.more-arguments.new.out) (length (take c.args.at.len c.args.out.now)) at c.args.count w.tree (still_open c.token-at-found.result.token (take (c.token-at-found.result.next - c.token-at-found.result.start) (drop c.token-at-found.result.start c.args.text.now)) (ahead c.args.text.now c.args.at.pos) (ahead c.args.text.now c.token-at-found.result.next) c.token-at-found.ensures.ahead (stop_end c.args.text.now c.args.at.pos c.token-at-found.result c.token-at-found.ensures.forth) (sym c.closes.ensures ∙ c.if-closes.false)) is n.0 w.took y) c.more-arguments.ensures.read;
+      forth = args_on c.more_arguments.result _ _ c.args.at.pos c.args.at.len _ _ (length c.args.out.now) (omega (arith, n.1, f.0)) f.2 c.chain.auto.out c.more_arguments.ensures.forth;
+      read = args_read c.more_arguments.result args_at args_at w.tree _ _ c.args.text.now c.args.out.now c.chain.new.out c.more_arguments.new.out c.args.at.len c.in_ok-c.c.len c.args.count c.requires.room (omega (arith, f.3, c.chain.auto.out)) c.chain.auto.out c.more_arguments.auto.out w.words
+          (λ es k y. args_took w.tree es (still_open c.token_at-found.result.token (take (c.token_at-found.result.next - c.token_at-found.result.start) (drop c.token_at-found.result.start c.args.text.now)) (ahead c.args.text.now c.args.at.pos) (ahead c.args.text.now c.token_at-found.result.next) c.token_at-found.ensures.ahead (stop_end c.args.text.now c.args.at.pos c.token_at-found.result c.token_at-found.ensures.forth) (sym c.closes.ensures ∙ c.if-closes.false)) n.0 w.took y) (λ at is y. args_bar_rest (length c.more_arguments.new.out) (length (take c.args.at.len c.args.out.now)) at c.args.count w.tree (still_open c.token_at-found.result.token (take (c.token_at-found.result.next - c.token_at-found.result.start) (drop c.token_at-found.result.start c.args.text.now)) (ahead c.args.text.now c.args.at.pos) (ahead c.args.text.now c.token_at-found.result.next) c.token_at-found.ensures.ahead (stop_end c.args.text.now c.args.at.pos c.token_at-found.result c.token_at-found.ensures.forth) (sym c.closes.ensures ∙ c.if-closes.false)) is n.0 w.took y) c.more_arguments.ensures.read;
     }

@@ -27,4 +27,4 @@ returns-in-Ok-key c =
     record { forth = onwards_more c.hear.result _ _ c.args.pos c.args.len _ _ (omega (arith, a.1)) (le_refl _) c.hear.ensures.forth; read = by_comma c.args.v c.hear.result _ _ c.args.text.now (take c.args.len c.args.out.now) c.hear.new.out a.0 c.hear.ensures.read }
 
 pub returns : goal.returns
-returns c = record { forth = tt; read = no_assignment c.args.v _ c.in-default.ensures c.in-default-key.ensures }
+returns c = record { forth = tt; read = no_assignment c.args.v _ c.in_default.ensures c.in_default-key.ensures }

@@ -16,32 +16,32 @@ use Rattle.reading.proofs.Steps.{step_refused, step_bar, whole_read, onwards_mor
 use Rattle.reading.proofs.Tasked.{front_bar_kind, front_bar_open, front_took, back_bar_tries, back_bar_number, back_bar_then, back_bar_pause, back_bar_long, back_took, times_good, args_close, list_close, close_token, still_open, args_took, args_bar_comma, args_bar_many, args_bar_expr, args_bar_rest, list_took, list_bar_expr, list_bar_rest, no_args_words, args_read, args_on, task_bar_front, task_bar_room, task_bar_args, task_bar_back, task_took, task_words_lem, heard_bar_same, heard_bar_sign, heard_bar_word, heard_bar_name, heard_bar_for, heard_took, hear_bar_front, hear_bar_room, hear_bar_expr, hear_took, hear_words, name_letter, name_zero, name_turn, no_assignment, by_same, by_comma}
 use Rattle.reading.proofs.tasks.hear.Goals as goal
 
-pub returns-in-err-front : goal.returns-in-err-front
-returns-in-err-front c =
-    let q = err_from_is_err_and c.from-residual.result c.from-residual.ensures.1 in
-    rw q.1 (record { forth = tt; read = hear_bar_front c.args.v c.args.out.now c.args.len _ c.requires.room c.in-err-front.ensures })
+pub returns-in_err-front : goal.returns-in_err-front
+returns-in_err-front c =
+    let q = err_from_is_err_and c.from_residual.result c.from_residual.ensures.1 in
+    rw q.1 (record { forth = tt; read = hear_bar_front c.args.v c.args.out.now c.args.len _ c.requires.room c.in_err-front.ensures })
 
 pub returns-then-out-len-lt68 : goal.returns-then-out-len-lt68
 returns-then-out-len-lt68 c = record { forth = tt; read = hear_bar_room c.args.v c.args.out.now c.args.len (length c.args.out.now) c.requires.room _ (omega arith) }
 
-pub returns-in-err-c : goal.returns-in-err-c
-returns-in-err-c c =
-    let q = err_from_is_err_and c.from-residual-in-err-c.result c.from-residual-in-err-c.ensures.1 in
-    rw q.1 (record { forth = tt; read = hear_bar_expr c.args.v c.args.out.now c.args.len (length c.chain.new.out) c.requires.room (heard_of c.args.text.now c.in-ok-front.front) c.in-ok-front.ensures.0 (whole_read (Err c.in-err-c.field-0.0) c.args.text.now c.in-ok-front.front.next (take (c.args.len + 68) c.args.out.now) c.chain.new.out c.in-err-c.ensures.read) })
+pub returns-in_err-c : goal.returns-in_err-c
+returns-in_err-c c =
+    let q = err_from_is_err_and c.from_residual-in_err-c.result c.from_residual-in_err-c.ensures.1 in
+    rw q.1 (record { forth = tt; read = hear_bar_expr c.args.v c.args.out.now c.args.len (length c.chain.new.out) c.requires.room (heard_of c.args.text.now c.in_ok-front.front) c.in_ok-front.ensures.0 (whole_read (Err c.in_err-c.field-0.0) c.args.text.now c.in_ok-front.front.next (take (c.args.len + 68) c.args.out.now) c.chain.new.out c.in_err-c.ensures.read) })
 
 pub returns : goal.returns
 returns c =
-    let fr = c.in-ok-front.ensures in
-    let f = c.in-ok-c.ensures.forth in
-    let w = whole_read (Ok c.in-ok-c.c) c.args.text.now c.in-ok-front.front.next (take (c.args.len + 68) c.args.out.now) c.chain.new.out c.in-ok-c.ensures.read in
-    let h = heard_of c.args.text.now c.in-ok-front.front in
+    let fr = c.in_ok-front.ensures in
+    let f = c.in_ok-c.ensures.forth in
+    let w = whole_read (Ok c.in_ok-c.c) c.args.text.now c.in_ok-front.front.next (take (c.args.len + 68) c.args.out.now) c.chain.new.out c.in_ok-c.ensures.read in
+    let h = heard_of c.args.text.now c.in_ok-front.front in
     record {
       forth = (omega (arith, fr.2, f.0), f.1, omega (arith, f.2), omega (arith, f.3));
       read = record {
         item = Hear c.args.v h.other h.name w.tree;
         took = hear_took c.args.v h w.tree fr.1 fr.0 w.took;
-        words = subst (λ (y : List ℕ). take c.in-ok-c.c.len y ≡ take c.args.len c.args.out.now ++ draft_stmt (Hear c.args.v h.other h.name w.tree))
-            (sym (c.head.ensures ∙ ap (λ (y : List ℕ). put4 y c.args.len 4 c.args.v c.units.result c.in-ok-front.front.other) c.write-name.ensures))
-            (hear_words c.args.out.now c.chain.new.out c.args.len c.in-ok-c.c.len c.args.v h.other c.units.result h.name w.tree w.words f.2 f.3 c.chain.auto.out c.units.ensures);
+        words = subst (λ (y : List ℕ). take c.in_ok-c.c.len y ≡ take c.args.len c.args.out.now ++ draft_stmt (Hear c.args.v h.other h.name w.tree))
+            (sym (c.head.ensures ∙ ap (λ (y : List ℕ). put4 y c.args.len 4 c.args.v c.units.result c.in_ok-front.front.other) c.write_name.ensures))
+            (hear_words c.args.out.now c.chain.new.out c.args.len c.in_ok-c.c.len c.args.v h.other c.units.result h.name w.tree w.words f.2 f.3 c.chain.auto.out c.units.ensures);
       };
     }

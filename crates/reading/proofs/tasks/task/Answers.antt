@@ -16,39 +16,39 @@ use Rattle.reading.proofs.Steps.{step_refused, step_bar, whole_read, onwards_mor
 use Rattle.reading.proofs.Tasked.{front_bar_kind, front_bar_open, front_took, back_bar_tries, back_bar_number, back_bar_then, back_bar_pause, back_bar_long, back_took, times_good, args_close, list_close, close_token, still_open, args_took, args_bar_comma, args_bar_many, args_bar_expr, args_bar_rest, list_took, list_bar_expr, list_bar_rest, no_args_words, args_read, args_on, task_bar_front, task_bar_room, task_bar_args, task_bar_back, task_took, task_words_lem, heard_bar_same, heard_bar_sign, heard_bar_word, heard_bar_name, heard_bar_for, heard_took, hear_bar_front, hear_bar_room, hear_bar_expr, hear_took, hear_words, name_letter, name_zero, name_turn, no_assignment, by_same, by_comma}
 use Rattle.reading.proofs.tasks.task.Goals as goal
 
-pub returns-in-err-front : goal.returns-in-err-front
-returns-in-err-front c =
-    let q = err_from_is_err_and c.from-residual.result c.from-residual.ensures.1 in
-    rw q.1 (record { forth = tt; read = task_bar_front c.args.v c.args.out.now c.args.len _ c.requires.room c.in-err-front.ensures })
+pub returns-in_err-front : goal.returns-in_err-front
+returns-in_err-front c =
+    let q = err_from_is_err_and c.from_residual.result c.from_residual.ensures.1 in
+    rw q.1 (record { forth = tt; read = task_bar_front c.args.v c.args.out.now c.args.len _ c.requires.room c.in_err-front.ensures })
 
 pub returns-then-out-len-lt16 : goal.returns-then-out-len-lt16
 returns-then-out-len-lt16 c = record { forth = tt; read = task_bar_room c.args.v c.args.out.now c.args.len (length c.args.out.now) c.requires.room _ (omega arith) }
 
-pub returns-in-err-args : goal.returns-in-err-args
-returns-in-err-args c =
-    let q = err_from_is_err_and c.from-residual-in-err-args.result c.from-residual-in-err-args.ensures.1 in
-    rw q.1 (record { forth = tt; read = task_bar_args c.args.v c.args.out.now c.args.len (length c.arguments.new.out) c.requires.room c.in-ok-front.front.value c.in-ok-front.ensures.0 c.in-err-args.ensures.read })
+pub returns-in_err-args : goal.returns-in_err-args
+returns-in_err-args c =
+    let q = err_from_is_err_and c.from_residual-in_err-args.result c.from_residual-in_err-args.ensures.1 in
+    rw q.1 (record { forth = tt; read = task_bar_args c.args.v c.args.out.now c.args.len (length c.arguments.new.out) c.requires.room c.in_ok-front.front.value c.in_ok-front.ensures.0 c.in_err-args.ensures.read })
 
-pub returns-in-err-back : goal.returns-in-err-back
-returns-in-err-back c =
-    let q = err_from_is_err_and c.from-residual-in-err-back.result c.from-residual-in-err-back.ensures.1 in
-    rw q.1 (record { forth = tt; read = task_bar_back c.args.v c.args.out.now c.args.len (length c.arguments.new.out) c.requires.room c.in-ok-front.front.value c.in-ok-args.ensures.read.items c.in-ok-front.ensures.0 c.in-ok-args.ensures.read.took c.in-err-back.ensures })
+pub returns-in_err-back : goal.returns-in_err-back
+returns-in_err-back c =
+    let q = err_from_is_err_and c.from_residual-in_err-back.result c.from_residual-in_err-back.ensures.1 in
+    rw q.1 (record { forth = tt; read = task_bar_back c.args.v c.args.out.now c.args.len (length c.arguments.new.out) c.requires.room c.in_ok-front.front.value c.in_ok-args.ensures.read.items c.in_ok-front.ensures.0 c.in_ok-args.ensures.read.took c.in_err-back.ensures })
 
 pub returns : goal.returns
 returns c =
-    let fr = c.in-ok-front.ensures in
-    let f = c.in-ok-args.ensures.forth in
-    let r = c.in-ok-args.ensures.read in
-    let b = c.in-ok-back.ensures in
-    let bk = c.in-ok-back.back in
+    let fr = c.in_ok-front.ensures in
+    let f = c.in_ok-args.ensures.forth in
+    let r = c.in_ok-args.ensures.read in
+    let b = c.in_ok-back.ensures in
+    let bk = c.in_ok-back.back in
     let few : length r.items ≤ 16 = omega (arith, r.few, r.counted) in
     record {
       forth = (omega (arith, fr.2, f.0, b.2), b.2.1, omega (arith, f.2), omega (arith, f.3));
       read = record {
-        item = Do c.args.v c.in-ok-front.front.value r.items bk.tries bk.pause;
-        took = task_took c.args.v c.in-ok-front.front.value r.items bk.tries bk.pause fr.1 few b.1 fr.0 r.took b.0;
-        words = subst (λ (y : List ℕ). take c.in-ok-args.args.len y ≡ take c.args.len c.args.out.now ++ draft_stmt (Do c.args.v c.in-ok-front.front.value r.items bk.tries bk.pause))
-            (sym (c.head-4.ensures ∙ ap (λ (y : List ℕ). put4 y c.args.len 2 c.args.v c.units.result 0) (c.head-3.ensures ∙ ap (λ (y : List ℕ). put4 y (c.args.len + 4) c.in-ok-front.front.value bk.tries bk.pause c.in-ok-args.args.count) (c.head-2.ensures ∙ ap (λ (y : List ℕ). put4 y (c.args.len + 8) 0 0 0 0) c.head.ensures))))
-            (task_words_lem c.args.out.now c.arguments.new.out c.args.len c.in-ok-args.args.len c.args.v c.in-ok-front.front.value bk.tries bk.pause c.units.result r.items r.words f.2 f.3 c.arguments.auto.out c.units.ensures c.in-ok-args.args.count (r.counted ∙ omega arith));
+        item = Do c.args.v c.in_ok-front.front.value r.items bk.tries bk.pause;
+        took = task_took c.args.v c.in_ok-front.front.value r.items bk.tries bk.pause fr.1 few b.1 fr.0 r.took b.0;
+        words = subst (λ (y : List ℕ). take c.in_ok-args.args.len y ≡ take c.args.len c.args.out.now ++ draft_stmt (Do c.args.v c.in_ok-front.front.value r.items bk.tries bk.pause))
+            (sym (c.head-4.ensures ∙ ap (λ (y : List ℕ). put4 y c.args.len 2 c.args.v c.units.result 0) (c.head-3.ensures ∙ ap (λ (y : List ℕ). put4 y (c.args.len + 4) c.in_ok-front.front.value bk.tries bk.pause c.in_ok-args.args.count) (c.head-2.ensures ∙ ap (λ (y : List ℕ). put4 y (c.args.len + 8) 0 0 0 0) c.head.ensures))))
+            (task_words_lem c.args.out.now c.arguments.new.out c.args.len c.in_ok-args.args.len c.args.v c.in_ok-front.front.value bk.tries bk.pause c.units.result r.items r.words f.2 f.3 c.arguments.auto.out c.units.ensures c.in_ok-args.args.count (r.counted ∙ omega arith));
       };
     }

@@ -16,31 +16,31 @@ use Rattle.reading.proofs.Steps.{step_refused, step_bar, whole_read, onwards_mor
 use Rattle.reading.proofs.Tasked.{front_bar_kind, front_bar_open, front_took, back_bar_tries, back_bar_number, back_bar_then, back_bar_pause, back_bar_long, back_took, times_good, args_close, list_close, close_token, still_open, args_took, args_bar_comma, args_bar_many, args_bar_expr, args_bar_rest, list_took, list_bar_expr, list_bar_rest, no_args_words, args_read, args_on, task_bar_front, task_bar_room, task_bar_args, task_bar_back, task_took, task_words_lem, heard_bar_same, heard_bar_sign, heard_bar_word, heard_bar_name, heard_bar_for, heard_took, hear_bar_front, hear_bar_room, hear_bar_expr, hear_took, hear_words, name_letter, name_zero, name_turn, no_assignment, by_same, by_comma}
 use Rattle.reading.proofs.tasks.task_back.Goals as goal
 
-pub returns-in-err-first : goal.returns-in-err-first
-returns-in-err-first c =
-    let q = err_from_is_err_and c.from-residual.result c.from-residual.ensures.1 in
-    rw q.1 (step_refused (one_key TRIES) (λ z. back_tries) _ c.in-err-first.ensures)
+pub returns-in_err-first : goal.returns-in_err-first
+returns-in_err-first c =
+    let q = err_from_is_err_and c.from_residual.result c.from_residual.ensures.1 in
+    rw q.1 (step_refused (one_key TRIES) (λ z. back_tries) _ c.in_err-first.ensures)
 
-pub returns-in-err-tries : goal.returns-in-err-tries
-returns-in-err-tries c =
-    let q = err_from_is_err_and c.from-residual-in-err-tries.result c.from-residual-in-err-tries.ensures.1 in
-    rw q.1 (back_bar_number c.in-ok-first.ensures.0 c.in-err-tries.ensures)
+pub returns-in_err-tries : goal.returns-in_err-tries
+returns-in_err-tries c =
+    let q = err_from_is_err_and c.from_residual-in_err-tries.result c.from_residual-in_err-tries.ensures.1 in
+    rw q.1 (back_bar_number c.in_ok-first.ensures.0 c.in_err-tries.ensures)
 
 pub returns-then-tries-eq0 : goal.returns-then-tries-eq0
-returns-then-tries-eq0 c = back_bar_tries c.in-ok-tries.tries.value c.in-ok-first.ensures.0 c.in-ok-tries.ensures.0 c.then-tries-eq0.either
+returns-then-tries-eq0 c = back_bar_tries c.in_ok-tries.tries.value c.in_ok-first.ensures.0 c.in_ok-tries.ensures.0 c.then-tries-eq0.either
 
-pub returns-in-err-then : goal.returns-in-err-then
-returns-in-err-then c =
-    let q = err_from_is_err_and c.from-residual-in-err-then.result c.from-residual-in-err-then.ensures.1 in
-    rw q.1 (back_bar_then c.in-ok-tries.tries.value c.in-ok-first.ensures.0 c.in-ok-tries.ensures.0 c.in-err-then.ensures)
+pub returns-in_err-then : goal.returns-in_err-then
+returns-in_err-then c =
+    let q = err_from_is_err_and c.from_residual-in_err-then.result c.from_residual-in_err-then.ensures.1 in
+    rw q.1 (back_bar_then c.in_ok-tries.tries.value c.in_ok-first.ensures.0 c.in_ok-tries.ensures.0 c.in_err-then.ensures)
 
-pub returns-in-err-pause : goal.returns-in-err-pause
-returns-in-err-pause c =
-    let q = err_from_is_err_and c.from-residual-in-err-pause.result c.from-residual-in-err-pause.ensures.1 in
-    rw q.1 (back_bar_pause c.in-ok-tries.tries.value c.in-ok-first.ensures.0 c.in-ok-tries.ensures.0 c.in-ok-then.ensures.0 c.in-err-pause.ensures)
+pub returns-in_err-pause : goal.returns-in_err-pause
+returns-in_err-pause c =
+    let q = err_from_is_err_and c.from_residual-in_err-pause.result c.from_residual-in_err-pause.ensures.1 in
+    rw q.1 (back_bar_pause c.in_ok-tries.tries.value c.in_ok-first.ensures.0 c.in_ok-tries.ensures.0 c.in_ok-then.ensures.0 c.in_err-pause.ensures)
 
-pub returns-then-pause-gt-LONGEST-PAUSE : goal.returns-then-pause-gt-LONGEST-PAUSE
-returns-then-pause-gt-LONGEST-PAUSE c = back_bar_long c.in-ok-tries.tries.value c.in-ok-pause.pause.value c.in-ok-first.ensures.0 c.in-ok-tries.ensures.0 c.in-ok-then.ensures.0 c.in-ok-pause.ensures.0 c.if-pause-gt-LONGEST-PAUSE.true
+pub returns-then-pause-gt-LONGEST_PAUSE : goal.returns-then-pause-gt-LONGEST_PAUSE
+returns-then-pause-gt-LONGEST_PAUSE c = back_bar_long c.in_ok-tries.tries.value c.in_ok-pause.pause.value c.in_ok-first.ensures.0 c.in_ok-tries.ensures.0 c.in_ok-then.ensures.0 c.in_ok-pause.ensures.0 c.if-pause-gt-LONGEST_PAUSE.true
 
 pub returns : goal.returns
-returns c = (back_took c.in-ok-tries.tries.value c.in-ok-pause.pause.value c.in-ok-first.ensures.0 c.in-ok-tries.ensures.0 c.in-ok-then.ensures.0 c.in-ok-pause.ensures.0, times_good c.in-ok-tries.tries.value c.in-ok-pause.pause.value c.if-tries-eq0.false c.if-tries-gt-MOST-TRIES.false c.if-pause-gt-LONGEST-PAUSE.false, (omega (arith, c.in-ok-first.ensures.1, c.in-ok-tries.ensures.1, c.in-ok-then.ensures.1, c.in-ok-pause.ensures.1), c.in-ok-pause.ensures.1.1))
+returns c = (back_took c.in_ok-tries.tries.value c.in_ok-pause.pause.value c.in_ok-first.ensures.0 c.in_ok-tries.ensures.0 c.in_ok-then.ensures.0 c.in_ok-pause.ensures.0, times_good c.in_ok-tries.tries.value c.in_ok-pause.pause.value c.if-tries-eq0.false c.if-tries-gt-MOST_TRIES.false c.if-pause-gt-LONGEST_PAUSE.false, (omega (arith, c.in_ok-first.ensures.1, c.in_ok-tries.ensures.1, c.in_ok-then.ensures.1, c.in_ok-pause.ensures.1), c.in_ok-pause.ensures.1.1))

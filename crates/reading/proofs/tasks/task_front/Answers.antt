@@ -16,23 +16,23 @@ use Rattle.reading.proofs.Steps.{step_refused, step_bar, whole_read, onwards_mor
 use Rattle.reading.proofs.Tasked.{front_bar_kind, front_bar_open, front_took, back_bar_tries, back_bar_number, back_bar_then, back_bar_pause, back_bar_long, back_took, times_good, args_close, list_close, close_token, still_open, args_took, args_bar_comma, args_bar_many, args_bar_expr, args_bar_rest, list_took, list_bar_expr, list_bar_rest, no_args_words, args_read, args_on, task_bar_front, task_bar_room, task_bar_args, task_bar_back, task_took, task_words_lem, heard_bar_same, heard_bar_sign, heard_bar_word, heard_bar_name, heard_bar_for, heard_took, hear_bar_front, hear_bar_room, hear_bar_expr, hear_took, hear_words, name_letter, name_zero, name_turn, no_assignment, by_same, by_comma}
 use Rattle.reading.proofs.tasks.task_front.Goals as goal
 
-pub returns-in-err-first : goal.returns-in-err-first
-returns-in-err-first c =
-    let q = err_from_is_err_and c.from-residual.result c.from-residual.ensures.1 in
-    rw q.1 (step_refused (one_key DO) (λ z. front_kind) _ c.in-err-first.ensures)
+pub returns-in_err-first : goal.returns-in_err-first
+returns-in_err-first c =
+    let q = err_from_is_err_and c.from_residual.result c.from_residual.ensures.1 in
+    rw q.1 (step_refused (one_key DO) (λ z. front_kind) _ c.in_err-first.ensures)
 
-pub returns-in-err-kind : goal.returns-in-err-kind
-returns-in-err-kind c =
-    let q = err_from_is_err_and c.from-residual-in-err-kind.result c.from-residual-in-err-kind.ensures.1 in
-    rw q.1 (step_bar (one_key DO) (λ z. front_kind) tt _ c.in-ok-first.ensures.0 (step_refused one_number front_open _ c.in-err-kind.ensures))
+pub returns-in_err-kind : goal.returns-in_err-kind
+returns-in_err-kind c =
+    let q = err_from_is_err_and c.from_residual-in_err-kind.result c.from_residual-in_err-kind.ensures.1 in
+    rw q.1 (step_bar (one_key DO) (λ z. front_kind) tt _ c.in_ok-first.ensures.0 (step_refused one_number front_open _ c.in_err-kind.ensures))
 
-pub returns-then-kind-gt-MOST-KIND : goal.returns-then-kind-gt-MOST-KIND
-returns-then-kind-gt-MOST-KIND c = front_bar_kind c.in-ok-kind.kind.value c.in-ok-first.ensures.0 c.in-ok-kind.ensures.0 c.if-kind-gt-MOST-KIND.true
+pub returns-then-kind-gt-MOST_KIND : goal.returns-then-kind-gt-MOST_KIND
+returns-then-kind-gt-MOST_KIND c = front_bar_kind c.in_ok-kind.kind.value c.in_ok-first.ensures.0 c.in_ok-kind.ensures.0 c.if-kind-gt-MOST_KIND.true
 
-pub returns-in-err-next : goal.returns-in-err-next
-returns-in-err-next c =
-    let q = err_from_is_err_and c.from-residual-in-err-next.result c.from-residual-in-err-next.ensures.1 in
-    rw q.1 (front_bar_open c.in-ok-kind.kind.value c.in-ok-first.ensures.0 c.in-ok-kind.ensures.0 c.in-err-next.ensures)
+pub returns-in_err-next : goal.returns-in_err-next
+returns-in_err-next c =
+    let q = err_from_is_err_and c.from_residual-in_err-next.result c.from_residual-in_err-next.ensures.1 in
+    rw q.1 (front_bar_open c.in_ok-kind.kind.value c.in_ok-first.ensures.0 c.in_ok-kind.ensures.0 c.in_err-next.ensures)
 
 pub returns : goal.returns
-returns c = (front_took c.in-ok-kind.kind.value c.in-ok-first.ensures.0 c.in-ok-kind.ensures.0 c.in-ok-next.ensures.0, omega (arith, c.if-kind-gt-MOST-KIND.false), (omega (arith, c.in-ok-first.ensures.1, c.in-ok-kind.ensures.1, c.in-ok-next.ensures.1), c.in-ok-next.ensures.1.1))
+returns c = (front_took c.in_ok-kind.kind.value c.in_ok-first.ensures.0 c.in_ok-kind.ensures.0 c.in_ok-next.ensures.0, omega (arith, c.if-kind-gt-MOST_KIND.false), (omega (arith, c.in_ok-first.ensures.1, c.in_ok-kind.ensures.1, c.in_ok-next.ensures.1), c.in_ok-next.ensures.1.1))
