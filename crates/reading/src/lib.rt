@@ -56,7 +56,7 @@ fn read_draft(text: &[u8], draft: &mut [u64]) -> Result<usize, NoPlan>
 // Reads a plan: writes its flat form to the sheet, and gives its size. The draft is memory to work in.
 // Nothing is written of a text that is no plan.
 pub fn read<S: Sheet>(text: &[u8], draft: &mut [u64], sheet: &mut S) -> Result<usize, ReadError>
-    ensures { Reads wrote room result text.now (length draft.old) sheet.old sheet.new }
+    ensures { Reads S.wrote S.room result text.now (length draft.old) sheet.old sheet.new }
 {
     if draft.len() < MOST_WORDS {
         return Err(ReadError::ShortDraft);
@@ -70,7 +70,7 @@ pub fn read<S: Sheet>(text: &[u8], draft: &mut [u64], sheet: &mut S) -> Result<u
 
 // Writes the flat form of a draft of this size.
 fn write<S: Sheet>(draft: &[u64], size: usize, sheet: &mut S) -> Result<usize, ReadError>
-    ensures { (b : Block) → size_of b ≤ 4096 → draft.now ≡ draft_of b → Writes wrote room result size sheet.old (laid b) sheet.new }
+    ensures { (b : Block) → size_of b ≤ 4096 → draft.now ≡ draft_of b → Writes S.wrote S.room result size sheet.old (laid b) sheet.new }
 {
     match link(draft, sheet) {
         Ok(()) => Ok(size),

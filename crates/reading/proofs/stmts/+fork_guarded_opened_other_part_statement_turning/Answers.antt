@@ -240,7 +240,7 @@ part-returns ring c =
     part_read c.part.result c.args.text.now c.args.at c.in_ok-c.c c.args.out.now c.statement.new.out c.part.new.out r.item (going c.token_at-found.result.token (take (c.token_at-found.result.next - c.token_at-found.result.start) (drop c.token_at-found.result.start c.args.text.now)) (ahead c.args.text.now c.args.at.pos) (ahead c.args.text.now c.token_at-found.result.next) c.token_at-found.ensures.ahead (sym c.ends.ensures ∙ c.if-ends.false)) c.requires.room (omega (arith, ft.after, ft.order, f.0)) f.2 f.3 c.statement.auto.out c.part.auto.out r.took r.words c.part.ensures.forth c.part.ensures.read
 
 pub part-statement-requires : goal.part-statement-requires
-part-statement-requires ring c κs =
+part-statement-requires ring c =
     let f = c.token_at-found.ensures.forth in
     let m = f.moves (not_stop c.token_at-found.result.token (sym c.ends.ensures ∙ c.if-ends.false)) in
     let w = f.within c.requires.within in
@@ -248,7 +248,7 @@ part-statement-requires ring c κs =
     (omega arith, (w, c.requires.room))
 
 pub part-part-requires : goal.part-part-requires
-part-part-requires ring c κs =
+part-part-requires ring c =
     let f = c.token_at-found.ensures.forth in
     let m = f.moves (not_stop c.token_at-found.result.token (sym c.ends.ensures ∙ c.if-ends.false)) in
     let a = f.after in
