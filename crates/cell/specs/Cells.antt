@@ -1,7 +1,7 @@
 -- The cell as an engine, and what a caller may expect of it.
 -- Assumes nothing.
 use Rattle.std.specs.Prelude.{◌≡◌, List, [], ◌∷◌, false, ℕ, zero, suc, ◌+◌, ◌%◌, ◌<◌, eqb, replicate}
-use Rattle.device.specs.Lines.{Lines, Work, yields, Engine, Sense, Sensible, Modest}
+use Rattle.device.specs.Lines.{Lines, Work, yields, Engine, Sense}
 use Rattle.device.specs.Does.{bind}
 use Rattle.device.specs.Images.{Image, All, None, At}
 use Rattle.device.specs.Costs.{Costs, Any}

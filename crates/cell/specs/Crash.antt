@@ -1,25 +1,24 @@
 -- The cell is safe whenever the power fails, and what it costs.
 -- Assumes nothing.
-use Rattle.std.specs.Prelude.{◌≡◌, refl, ◌⊎◌, Bool, true, false, eqb, length, get_or, replicate}
+use Rattle.std.specs.Prelude.{◌≡◌, refl, ◌⊎◌, length, get_or, replicate}
 use Rattle.std.proofs.Common.{sym, ap, subst, ◌∙◌, inr, arith, ne_eqb}
 use Rattle.std.proofs.Math.Logic.{inl}
 use mathlib.Core.List.{List, [], ◌∷◌}
-use Prim.Native.Nat.{ℕ, zero, suc, ◌+◌, ◌-◌, ◌*◌, ◌/◌, ◌%◌, ◌<◌, ◌≤◌}
-use Rattle.device.specs.Lines.{Lines, fresh_lines, seen, Left, Work, yields, load}
-use Rattle.device.specs.Does.{Did, bind}
+use Prim.Native.Nat.{ℕ, zero, suc, ◌+◌, ◌-◌, ◌/◌, ◌%◌, ◌<◌, ◌≤◌}
+use Rattle.device.specs.Lines.{Lines, fresh_lines, seen, Left, yields}
+use Rattle.device.specs.Does.{Did}
 use Rattle.device.specs.Safe.{Safe, s_end, s_load, Kept}
 use Rattle.device.specs.Images.{Image, upd, All, None, At, Agree}
-use Rattle.device.specs.Flips.{commit_work, Amid, Rests}
+use Rattle.device.specs.Flips.{commit_work}
 use Rattle.device.specs.Costs.{Costs, Any, c_load}
-use Rattle.device.proofs.Safe.{safe_bind, safe_more, safe_partly, safe_worked}
+use Rattle.device.proofs.Safe.{safe_bind, safe_more, safe_partly}
 use Rattle.device.proofs.Image.{upd_same, at_left, at_fresh}
 use Rattle.device.proofs.Commit.{amid_rests}
 use Rattle.device.proofs.Costs.{costs_more, costs_bind, costs_commit_work}
 use Rattle.device.proofs.Did.{did_ties}
-use Rattle.words.specs.Works.{load_words, save_words}
-use Rattle.words.specs.Runs.{read_from, puts, Small, Drafting}
+use Rattle.words.specs.Runs.{read_from, puts, Small}
 use Rattle.words.proofs.Runs.{reads_ext, safe_load_words}
-use Rattle.words.proofs.Drafting.{drafting_start, drafting_amid, drafting_save, drafting_flip, reads_here, reads_flipped}
+use Rattle.words.proofs.Drafting.{drafting_start, drafting_save, drafting_flip, reads_here, reads_flipped}
 use Rattle.words.proofs.Costs.{costs_load_words, costs_save_words}
 use Rattle.lines.specs.declared.cached.Cached.{Cached}
 use Rattle.lines.specs.declared.fuse.Fuse.{Fuse}

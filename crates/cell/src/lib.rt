@@ -20,9 +20,9 @@ use words::{flip, load_words, save_words};
 
 // The words that the cell holds.
 pub fn get<D: Device>(memory: &mut D) -> [u64; 16]
-    requires fits { 5 ≤ size memory.old }
-    ensures did { Did step get_work memory.old result memory.new }
-    ensures stays { size memory.new ≡ size memory.old }
+    requires fits { 5 ≤ D.size memory.old }
+    ensures did { Did D.step get_work memory.old result memory.new }
+    ensures stays { D.size memory.new ≡ D.size memory.old }
 {
     let root = memory.load(0, 0);
     let mut held = [0u64; 16];
@@ -32,9 +32,9 @@ pub fn get<D: Device>(memory: &mut D) -> [u64; 16]
 
 // Has the cell hold these words.
 pub fn put<D: Device>(memory: &mut D, words: &[u64; 16])
-    requires fits { 5 ≤ size memory.old }
-    ensures did { Did step (put_work words.now) memory.old tt memory.new }
-    ensures stays { size memory.new ≡ size memory.old }
+    requires fits { 5 ≤ D.size memory.old }
+    ensures did { Did D.step (put_work words.now) memory.old tt memory.new }
+    ensures stays { D.size memory.new ≡ D.size memory.old }
 {
     let root = memory.load(0, 0);
     save_words(memory, 1 + 2 * (1 - root % 2), 2, words);

@@ -1,5 +1,5 @@
 use borrow.Author.Rules.{rules}
-use Rattle.device.specs.Does.{Did, d_load}
+use Rattle.device.specs.Does.{d_load}
 use Rattle.cell.specs.Works.{get_work}
 use Rattle.cell.proofs.get.Goals as goal
 
