@@ -30,7 +30,7 @@ use Rattle.flows.specs.Summed.{cancels_one}
 use Rattle.flows.specs.Seats.{Seats, Seated, nobody, put, answer, refuse, at_seat, shows_flow, forgets_flow, cancels_flow, flow_at, key_seat, id_seat, seat_with, holds_key, holds_id}
 use Rattle.pages.specs.Events.{over_in, cancelled_of}
 use Rattle.pages.proofs.Asked.{over_held, cancelled_held}
-use Rattle.engine.specs.Works.{room, Answer, said, lost, by_slot, by_flow, at_flow, at_slot_lem, key_slot, id_slot, changes, show_flow, forget_flow, cancel_flow}
+use Rattle.engine.specs.Works.{room, Answer, said, lost, by_slot, by_flow, at_flow, at_slot, key_slot, id_slot, changes, show_flow, forget_flow, cancel_flow}
 
 and_left : (a b : Bool) → (a && b) ≡ true → a ≡ true
 and_left true b e = refl
@@ -54,11 +54,11 @@ module _ {N : ℕ} {x : Mind} {k : Seats} {m : Lines} (big : 32768 ≤ N) (st : 
   pub at_slot_lem : (p : ℕ → Bool) (q : List ℕ) (F : ℕ → Seats → Seated) (W : ℕ → Flow → Work Answer)
       → ((i : ℕ) → p i ≡ true → eqb (used_of x.page i) 1 ≡ true)
       → ((i : ℕ) (u : Used x.page i) → p i ≡ true → F i k ≡ at_seat F q k → Carries N k (F i k) (W i (st.agrees.used i u).flow) m)
-      → slot_list (first_slot p 0 1024) ≡ q → Carries N k (at_seat F q k) (at_slot_lem x W (first_slot p 0 1024)) m
-  unfolding at_seat at_slot_lem by_slot at_flow slot_list by_flow
-  at_slot_lem p q F W used each e = subst (λ l. Carries N k (at_seat F l k) (at_slot_lem x W (first_slot p 0 1024)) m) e (go (first_slot p 0 1024) refl)
+      → slot_list (first_slot p 0 1024) ≡ q → Carries N k (at_seat F q k) (at_slot x W (first_slot p 0 1024)) m
+  unfolding at_seat at_slot by_slot at_flow slot_list by_flow
+  at_slot_lem p q F W used each e = subst (λ l. Carries N k (at_seat F l k) (at_slot x W (first_slot p 0 1024)) m) e (go (first_slot p 0 1024) refl)
     where
-      go : (s : Option ℕ) → first_slot p 0 1024 ≡ s → Carries N k (at_seat F (slot_list s) k) (at_slot_lem x W s) m
+      go : (s : Option ℕ) → first_slot p 0 1024 ≡ s → Carries N k (at_seat F (slot_list s) k) (at_slot x W s) m
       go None t = carries_said N x k m (No 2) (refuse 2 k) st long refl refl
       go (Some i) t =
           let f = search_found p 0 1024 i t in
@@ -67,7 +67,7 @@ module _ {N : ℕ} {x : Mind} {k : Seats} {m : Lines} (big : 32768 ≤ N) (st : 
 
   pub at_id : (j : ℕ) (F : ℕ → Seats → Seated) (W : ℕ → Flow → Work Answer)
       → ((i : ℕ) (u : Used x.page i) → id_at x.dir i ≡ j → F i k ≡ at_seat F (id_seat j k) k → Carries N k (F i k) (W i (st.agrees.used i u).flow) m)
-      → Carries N k (at_seat F (id_seat j k) k) (at_slot_lem x W (id_slot x j)) m
+      → Carries N k (at_seat F (id_seat j k) k) (at_slot x W (id_slot x j)) m
   at_id j F W each =
       at_slot_lem (by_id x.page x.dir j) (id_seat j k) F W
       (λ i t. and_left _ _ t) (λ i u t z. each i u (eqb-true _ _ (and_right _ _ t)) z)
@@ -75,7 +75,7 @@ module _ {N : ℕ} {x : Mind} {k : Seats} {m : Lines} (big : 32768 ≤ N) (st : 
 
   pub at_key : (n : Name) (F : ℕ → List Meant → Seats → Seated) (W : ℕ → Flow → Work Answer)
       → ((i : ℕ) (u : Used x.page i) → Carries N k (F i (k.at i).flow k) (W i (st.agrees.used i u).flow) m)
-      → Carries N k (flow_at F n k) (at_slot_lem x W (key_slot x n)) m
+      → Carries N k (flow_at F n k) (at_slot x W (key_slot x n)) m
   at_key n F W each =
       at_slot_lem (by_key x.page x.dir n) (key_seat n k) (λ (i : ℕ) (l : Seats). F i (l.at i).flow l) W
       (λ i t. and_left _ _ t) (λ i u t z. each i u)

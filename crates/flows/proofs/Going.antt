@@ -1,7 +1,7 @@
 -- One flow goes on well.
 use Rattle.std.proofs.Common.{◌≡◌, ℕ, ◌<◌, ◌≤◌, Bool, true, false, cond, not, ltb, leb, ◌⊎◌, List, [], ◌∷◌, map, sym, refl, ap, ◌∙◌, subst, inl, inr, arith}
 use Rattle.std.proofs.lemmas.Bool.Decides.{nat_tests}
-use Rattle.plans.specs.Plan.{Frame, Phase, Busy, Tasked, Asleep, Listens, Ended, Failed, Flow, Wish, Moved, at, goes_on_lem, still, broken, heard, moves}
+use Rattle.plans.specs.Plan.{Frame, Phase, Busy, Tasked, Asleep, Listens, Ended, Failed, Flow, Wish, Moved, at, goes_on, still, broken, heard, moves}
 use Rattle.flows.specs.House.{Due, Out, Task, keep, change, is_task, wished, step_of, again, stands_as, is_late, is_out}
 use Rattle.flows.specs.One.{of, One, moved_one, fails_one, with_task, wrong_one, works_one, late_all, woken_one, woken_all, ticked_one, frames_ok}
 use Rattle.flows.specs.Fine.{waits_task, AsksOf, Fine, absent, calm, tasked, Later, After, Goes}
@@ -99,7 +99,7 @@ pub drop_self : (t : Task) → keep (λ (u : Task). not (is_task t.flow t.step u
 unfolding keep
 drop_self t = rw (task_self t) refl
 
-pub goes_on_lem : (f : List Frame) (v : ℕ → ℕ) (x : Flow) → frames_ok f ≡ true → Moving x.steps x (still (goes_on_lem f v x))
+pub goes_on_lem : (f : List Frame) (v : ℕ → ℕ) (x : Flow) → frames_ok f ≡ true → Moving x.steps x (still (goes_on f v x))
 goes_on_lem f v x k = record { id = refl; key = refl; size = refl; frames = k; agrees = (refl, omega arith) }
 
 pub goes_fails : (j now : ℕ) (x : Flow) (o p : One) → o.flow ≡ x ∷ [] → p.flow ≡ x ∷ [] → p.task ≡ [] → x.id ≡ j → frames_ok x.frames ≡ true → Goes j o (fails_one now p.flow p)
@@ -108,7 +108,7 @@ goes_fails j now x o p eo ef et ej k = subst (λ (xs : List Flow). Goes j o (fai
 
 pub goes_works : (j now v : ℕ) (x : Flow) (o p : One) → o.flow ≡ x ∷ [] → p.flow ≡ x ∷ [] → p.task ≡ [] → x.id ≡ j → frames_ok x.frames ≡ true → Goes j o (works_one now v p.flow p)
 unfolding works_one
-goes_works j now v x o p eo ef et ej k = subst (λ (xs : List Flow). Goes j o (works_one now v xs p)) (sym ef) (goes_moved j now x (goes_on_lem x.frames (at x.into v x.vars) x) o p eo ef et ej (goes_on_lem x.frames _ x k))
+goes_works j now v x o p eo ef et ej k = subst (λ (xs : List Flow). Goes j o (works_one now v xs p)) (sym ef) (goes_moved j now x (goes_on x.frames (at x.into v x.vars) x) o p eo ef et ej (goes_on_lem x.frames _ x k))
 
 -- the same flow, its task changed to another of the same step
 pub goes_task : (j : ℕ) (t u : Task) (o p : One) → Fine j o → o.task ≡ t ∷ [] → p.flow ≡ o.flow → p.task ≡ u ∷ [] → u.flow ≡ t.flow → u.step ≡ t.step → 1 ≤ u.attempt → u.attempt ≤ u.tries → (AsksOf t → AsksOf u) → Later t u → Goes j o p
@@ -179,7 +179,7 @@ goes_woken j now o f = go f
     wake : (x : Flow) → o.flow ≡ x ∷ [] → o.task ≡ [] → x.id ≡ j → frames_ok x.frames ≡ true → (p : Phase) → x.phase ≡ p → waits_task p ≡ false → Goes j o (woken_one now p x o)
     wake x a b c d Busy e w = goes_moved j now x x o o a a b c (record { id = refl; key = refl; size = refl; frames = d; agrees = rw e (refl, omega arith) })
     wake x a b c d (Tasked s) e w = goes_refl j o f
-    wake x a b c d (Asleep u) e w = if (leb u now) _ (goes_moved j now x (goes_on_lem x.frames x.vars x) o o a a b c (goes_on_lem x.frames x.vars x d))
+    wake x a b c d (Asleep u) e w = if (leb u now) _ (goes_moved j now x (goes_on x.frames x.vars x) o o a a b c (goes_on_lem x.frames x.vars x d))
     wake x a b c d (Listens v s n u) e w = if (leb u now) _ (goes_moved j now x (heard v s 0 0 x.box x.frames x) o o a a b c (record { id = refl; key = refl; size = refl; frames = d; agrees = (refl, omega arith) }))
     wake x a b c d (Ended v) e w = goes_refl j o f
     wake x a b c d Failed e w = goes_refl j o f

@@ -1,7 +1,7 @@
 -- Nobody sleeps on.
 use Rattle.std.proofs.Common.{◌≡◌, ℕ, ◌<◌, Bool, true, false, cond, not, ◌&&◌, T, eqb, ltb, leb, ◌⊎◌, List, [], ◌∷◌, ◌++◌, map, sym, refl, ap, ◌∙◌, subst, inl, inr, arith}
 use mathlib.Core.List.{Memᴰ}
-use Rattle.plans.specs.Plan.{Phase, Busy, Tasked, Asleep, Listens, Ended, Failed, Flow, Wish, Moved, goes_on_lem, still, heard, moves, broken}
+use Rattle.plans.specs.Plan.{Phase, Busy, Tasked, Asleep, Listens, Ended, Failed, Flow, Wish, Moved, goes_on, still, heard, moves, broken}
 use Rattle.flows.specs.House.{Standing, Due, Out, Task, House, keep, find, change, is_flow, is_task, is_late, again, wished, step_of, ticks, timed, small, Tick, No, Yes, no, says, acts, does, is_tick}
 use Rattle.flows.specs.One.{One, look, moved_one, fails_one, with_task, wrong_one, late_all, woken_one, woken_all, ticked_one, frames_ok}
 use Rattle.flows.specs.Fine.{waits_task, Fine, absent, calm, tasked, Good}
@@ -57,8 +57,8 @@ sleeper_wakes j now x y o f e s k q = go x.phase refl s
     go Busy c s' = absurd s'
     go (Tasked n) c s' = absurd s'
     go (Asleep u) c s' =
-        let w : ticked_one now o ≡ moved_one now (goes_on_lem x.frames x.vars x) o = alone (rw c refl) ∙ rw (c, T_true (leb u now) s') refl in
-        moved_awake now x (goes_on_lem x.frames x.vars x) y o e (goes_on_lem x.frames x.vars x fr) (ap (λ (p : One). p.flow) (sym w) ∙ k) (ap sleepy (q ∙ c))
+        let w : ticked_one now o ≡ moved_one now (goes_on x.frames x.vars x) o = alone (rw c refl) ∙ rw (c, T_true (leb u now) s') refl in
+        moved_awake now x (goes_on x.frames x.vars x) y o e (goes_on_lem x.frames x.vars x fr) (ap (λ (p : One). p.flow) (sym w) ∙ k) (ap sleepy (q ∙ c))
     go (Listens v c' n u) c s' =
         let z : Flow = heard v c' 0 0 x.box x.frames x in
         let w : ticked_one now o ≡ moved_one now z o = alone (rw c refl) ∙ rw (c, T_true (leb u now) s') refl in

@@ -1,17 +1,15 @@
 -- The units of an expression do what the tree is worth.
-use Rattle.std.proofs.Common.{◌≡◌, ℕ, zero, suc, ◌+◌, ◌-◌, ◌*◌, ◌%◌, ◌^◌, ◌<◌, ◌≤◌, Bool, true, false, cond, ◌&&◌, eqb, ltb, ◌≢◌, ◌⊎◌, List, [], ◌∷◌, ◌++◌, length, get_or, drop, set, is_err, Ok, Err, Result, sym, refl, ap, ◌∙◌, subst, inl, inr, append_assoc, mod-eq_of_lt, add-one, arith, length-drop, get_or-set_other, get_or-set_same}
+use Rattle.std.proofs.Common.{◌≡◌, ℕ, zero, suc, ◌+◌, ◌-◌, ◌*◌, ◌%◌, ◌<◌, ◌≤◌, Bool, true, false, cond, eqb, ◌≢◌, ◌⊎◌, List, [], ◌∷◌, ◌++◌, length, get_or, drop, set, sym, refl, ap, ◌∙◌, subst, inl, inr, append_assoc, mod-eq_of_lt, add-one, arith, length-drop, get_or-set_other, get_or-set_same}
 use mir.Val.{bool_byte}
-use Rattle.std.proofs.lemmas.List.{drop_more, drop_all}
-use Rattle.std.proofs.lemmas.Bool.{lt-ltb, le-ltb, ltb-true, and_parts, false≢true}
+use Rattle.std.proofs.lemmas.List.{drop_more}
+use Rattle.std.proofs.lemmas.Bool.{lt-ltb, le-ltb, ltb-true, and_parts}
 use Rattle.plans.specs.declared.eval.Join.{Join}
 use Rattle.plans.specs.declared.eval.Join.TheVariants.{Sum, Difference, Product, Under, Equal}
 use Rattle.plans.specs.declared.eval.Op.{Op}
 use Rattle.plans.specs.declared.eval.Op.TheVariants.{Push, Load, Pair, Negate, Halt}
-use Rattle.plans.specs.declared.eval.Valued.{Valued}
-use Rattle.plans.specs.declared.eval.Damaged.{Damaged}
 use Rattle.plans.specs.Plan.{Expr, Lit, Var, Plus, Minus, Times, Less, Same, Not, expr_ok, expr_size, value, top, less_by, bit}
 use Rattle.plans.specs.Flat.{code_of}
-use Rattle.plans.specs.Eval.{op_of, join_of, Out, Bad, Stop, tops, Stack, none, some, pushed, loaded, paired, negated, onto, acts, or_stop, run_e, One, no_value, one_value, one_of, Evaled, look, Meant, Worth}
+use Rattle.plans.specs.Eval.{op_of, join_of, Out, Bad, Stop, tops, pushed, loaded, paired, negated, onto, acts, or_stop, run_e, One, no_value, one_value, one_of, look, Meant}
 
 pub bool_byte_is : (b : Bool) → bool_byte b ≡ cond b 1 0
 bool_byte_is true = refl

@@ -1,14 +1,14 @@
 -- Statements with parts, and parts: what is written of them, piece by piece.
-use Rattle.std.proofs.Common.{◌≡◌, ℕ, zero, suc, ◌+◌, ◌-◌, ◌*◌, ◌<◌, ◌≤◌, Bool, true, false, cond, eqb, List, [], ◌∷◌, ◌++◌, length, get_or, take, drop, Ok, Err, Result, sym, refl, ap, ◌∙◌, subst, append_assoc, append-nil, add-one, arith, length-append, length-drop}
+use Rattle.std.proofs.Common.{◌≡◌, ℕ, suc, ◌+◌, ◌-◌, ◌*◌, ◌<◌, ◌≤◌, true, false, cond, eqb, List, [], ◌∷◌, ◌++◌, length, get_or, take, drop, Ok, Err, Result, sym, refl, ap, ◌∙◌, subst, append_assoc, append-nil, add-one, arith, length-append, length-drop}
 use Rattle.std.proofs.lemmas.Bool.Decides.{nat_tests}
 use Rattle.plans.specs.declared.link.LinkError.{LinkError}
 use Rattle.plans.specs.declared.link.LinkError.TheVariants.{NoRoom, Damaged}
-use Rattle.plans.specs.Plan.{Name, Expr, Stmt, Set, Do, Sleep, Hear, If, While, Guard, Return, FailNow, Block, done, then, expr_size, stmt_size, size_of}
-use Rattle.plans.specs.Flat.{Way, Nowhere, To, way_word, entry, code_of, draft_stmt, draft_of, under, go_on, lay_stmt, lay, laid, is_simple}
-use Rattle.plans.specs.Sheet.{Wrote, nothing, more, Step, Written, WrittenTo}
+use Rattle.plans.specs.Plan.{Expr, Stmt, Set, Do, Sleep, Hear, If, While, Guard, Return, FailNow, Block, done, then, expr_size, stmt_size, size_of}
+use Rattle.plans.specs.Flat.{Way, Nowhere, To, way_word, code_of, draft_stmt, draft_of, under, go_on, lay_stmt, lay, laid, is_simple}
+use Rattle.plans.specs.Sheet.{Wrote, Step, Written, WrittenTo}
 use Rattle.plans.proofs.Written.{wrote_append, wrote_room}
-use Rattle.plans.proofs.Drafts.{Head, head_of, front_of, rest_of, code_length, draft_length, stmt_length, lay_length, lay_stmt_length}
-use Rattle.plans.proofs.Simple.{kind_of, tail_of, head_at, kind_small, tail_length, written_short}
+use Rattle.plans.proofs.Drafts.{head_of, front_of, rest_of, code_length, draft_length, stmt_length, lay_length, lay_stmt_length}
+use Rattle.plans.proofs.Simple.{kind_of, head_at, kind_small, tail_length, written_short}
 
 pub written_front : {S : Type 0} (wrote : S → ℕ → S → Type 0) (room : S → ℕ) (xs ys : List ℕ) (s t u : S) (e : LinkError) → Written wrote room (Err e) s xs t → Written wrote room (Err e) s (xs ++ ys) u
 written_front wrote room xs ys s t u e k = let l = length-append xs ys in written_short wrote room xs (xs ++ ys) s t u e (omega arith) k

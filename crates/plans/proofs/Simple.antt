@@ -1,11 +1,11 @@
 -- Statements with no parts: their drafts and their flat forms differ only in where control and a failure go.
-use Rattle.std.proofs.Common.{◌≡◌, ℕ, zero, suc, ◌+◌, ◌-◌, ◌*◌, ◌<◌, ◌≤◌, Bool, true, false, List, [], ◌∷◌, ◌++◌, length, get_or, take, drop, Ok, Err, Result, sym, refl, ap, ◌∙◌, subst, arith, length-append}
+use Rattle.std.proofs.Common.{◌≡◌, ℕ, ◌+◌, ◌-◌, ◌*◌, ◌≤◌, true, List, [], ◌∷◌, ◌++◌, length, get_or, take, drop, Ok, Err, Result, sym, refl, ap, ◌∙◌, subst, arith, length-append}
 use Rattle.std.proofs.lemmas.Bool.{false≢true}
 use Rattle.plans.specs.declared.link.LinkError.{LinkError}
 use Rattle.plans.specs.declared.link.LinkError.TheVariants.{NoRoom, Damaged}
-use Rattle.plans.specs.Plan.{Name, Expr, Stmt, Set, Do, Sleep, Hear, If, While, Guard, Return, FailNow, Block, done, then, expr_size, stmt_size, size_of}
-use Rattle.plans.specs.Flat.{Way, way_word, entry, code_of, codes_of, padded, draft_stmt, draft_of, lay_stmt, lay, is_simple, next_word, last_word}
-use Rattle.plans.specs.Sheet.{Wrote, nothing, more, Step, Written, WrittenTo}
+use Rattle.plans.specs.Plan.{Stmt, Set, Do, Sleep, Hear, If, While, Guard, Return, FailNow, expr_size, stmt_size, size_of}
+use Rattle.plans.specs.Flat.{Way, way_word, entry, code_of, codes_of, padded, draft_stmt, draft_of, lay_stmt, is_simple, next_word, last_word}
+use Rattle.plans.specs.Sheet.{Wrote, Step, Written}
 use Rattle.plans.proofs.Written.{wrote_append, wrote_room}
 use Rattle.plans.proofs.Drafts.{Head, head_of, front_of, stmt_length}
 

@@ -1,5 +1,5 @@
 -- Words written one after the other: joining, and how much room is left.
-use Rattle.std.proofs.Common.{◌≡◌, ℕ, zero, suc, ◌+◌, ◌-◌, ◌*◌, ◌<◌, ◌≤◌, List, [], ◌∷◌, ◌++◌, length, get_or, take, drop, sym, refl, ap, ◌∙◌, subst, append_assoc, append-nil, add-zero, add-one, arith, length-set, drop-cons}
+use Rattle.std.proofs.Common.{◌≡◌, ℕ, suc, ◌+◌, ◌<◌, ◌≤◌, List, [], ◌∷◌, ◌++◌, length, get_or, take, drop, sym, refl, ap, ◌∙◌, subst, append_assoc, append-nil, add-zero, add-one, arith, length-set, drop-cons}
 use Rattle.std.proofs.lemmas.List.{drop_all, take_more_set}
 use Rattle.plans.specs.Noted.{Noted}
 use Rattle.plans.specs.Sheet.{Wrote, nothing, more, Step}

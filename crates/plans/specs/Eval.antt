@@ -1,5 +1,5 @@
 -- Expressions in the flat form: what their units do on a stack. Assumes nothing.
-use Rattle.std.specs.Prelude.{◌≡◌, ℕ, zero, suc, ◌+◌, ◌-◌, ◌*◌, ◌%◌, ◌^◌, ◌<◌, ◌≤◌, Bool, true, false, cond, List, [], ◌∷◌, ◌++◌, length, drop, Ok, Err, Result, ◌==◌, nat_lt, slice_index}
+use Rattle.std.specs.Prelude.{◌≡◌, ℕ, zero, suc, ◌+◌, ◌-◌, ◌*◌, ◌%◌, ◌^◌, ◌≤◌, true, cond, List, [], ◌∷◌, ◌++◌, length, drop, Ok, Err, Result, ◌==◌, nat_lt, slice_index}
 use Rattle.plans.specs.declared.eval.Join.{Join}
 use Rattle.plans.specs.declared.eval.Join.TheVariants.{Sum, Difference, Product, Under, Equal}
 use Rattle.plans.specs.declared.eval.Op.{Op}
@@ -7,7 +7,7 @@ use Rattle.plans.specs.declared.eval.Op.TheVariants.{Push, Load, Pair, Negate, H
 use Rattle.plans.specs.declared.eval.Stopped.{Stopped}
 use Rattle.plans.specs.declared.eval.Damaged.{Damaged}
 use Rattle.plans.specs.declared.eval.Valued.{Valued}
-use Rattle.plans.specs.Plan.{Expr, expr_ok, expr_size, value}
+use Rattle.plans.specs.Plan.{Expr, expr_ok, expr_size}
 use Rattle.plans.specs.Flat.{code_of}
 
 -- what a unit says by its first word; every unit of no expression ends one

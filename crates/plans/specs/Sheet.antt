@@ -1,5 +1,5 @@
 -- Words written one after the other. Assumes nothing.
-use Rattle.std.specs.Prelude.{◌≡◌, ℕ, suc, ◌+◌, ◌*◌, ◌<◌, List, [], ◌∷◌, ◌++◌, length, drop, Ok, Err, Result}
+use Rattle.std.specs.Prelude.{◌≡◌, ℕ, suc, ◌<◌, List, [], ◌∷◌, length, Ok, Err, Result}
 use Rattle.plans.specs.declared.sheet.Full.{Full}
 use Rattle.plans.specs.declared.link.LinkError.{LinkError}
 use Rattle.plans.specs.declared.link.LinkError.TheVariants.{NoRoom, Damaged}

@@ -25,7 +25,7 @@ use Rattle.reading.specs.declared.exprs.Opening.TheVariants as opening
 use Rattle.reading.specs.Took.{Family, Took, found, Only, Bars, bars}
 use Rattle.reading.specs.Took as took
 use Rattle.reading.specs.Tokens.{one_key}
-use Rattle.reading.specs.Levels.{below_of, is_unary, join_at, parser_at, expr_at, more_at, only_at_lem, joins_at, kind_of, build, key_opens, opens_at, NoRoom, Further, Leaf, ReadExpr}
+use Rattle.reading.specs.Levels.{below_of, is_unary, join_at, parser_at, expr_at, more_at, only_at, joins_at, kind_of, build, key_opens, opens_at, NoRoom, Further, Leaf, ReadExpr}
 use Rattle.reading.proofs.Taking.{take_token, bar_token, bar_stop, bar_bad}
 use Rattle.reading.proofs.Chains.{Gives, Leaves, prefix, prefix_bar, bind, bind_bar, rename_bar, took_bar, only_then, only_at_lem, and_at}
 
@@ -190,7 +190,7 @@ ends_key Sum x = refl
 ends_key Product x = refl
 ends_key Unary x = refl
 
-ends_op : (level : Level) (o : Operator) → only_at_lem level o ≡ None → join_at level (op (operator_meant o)) ≡ ends
+ends_op : (level : Level) (o : Operator) → only_at level o ≡ None → join_at level (op (operator_meant o)) ≡ ends
 unfolding product_op sum_op compare_op
 ends_op Compare by.Plus h = refl
 ends_op Compare by.Minus h = refl
@@ -230,7 +230,7 @@ pub record Joined (level : Level) (t : Token) (o : Operator) : Type 0 where
 at_some : (P : Operator → Type 0) (o q : Operator) → Some o ≡ Some q → P o → P q
 at_some P o q h k = let e : o ≡ q = cc in subst P e k
 
-joined_op : (level : Level) (o q : Operator) → only_at_lem level o ≡ Some q → Joined level (is.Operator o) q
+joined_op : (level : Level) (o q : Operator) → only_at level o ≡ Some q → Joined level (is.Operator o) q
 unfolding product_op sum_op compare_op
 joined_op Compare by.Plus q h = let z : ◌≡◌ {A = ℕ} 0 1 = cc in absurd (omega arith)
 joined_op Compare by.Minus q h = let z : ◌≡◌ {A = ℕ} 0 1 = cc in absurd (omega arith)

@@ -14,7 +14,7 @@ use Rattle.store.specs.Finds.{weight_over}
 use Rattle.store.specs.Room.{marked, chosen, looked_at}
 use Rattle.engine.specs.declared.take.Best.{Best}
 use Rattle.engine.specs.declared.take.Looking.{Looking}
-use Rattle.engine.specs.Works.{Answer, said, lost, by_slot, by_flow, by_tried, by_task, by_best, by_blocks, changes, at_flow, at_slot_lem, show_flow, forget_flow, cancel_flow, longer_flow, report_plan, report_flow, hand_flow, take_end, take_work, born_work, start_blocks, start_free, start_work}
+use Rattle.engine.specs.Works.{Answer, said, lost, by_slot, by_flow, by_tried, by_task, by_best, by_blocks, changes, at_flow, at_slot, show_flow, forget_flow, cancel_flow, longer_flow, report_plan, report_flow, hand_flow, take_end, take_work, born_work, start_blocks, start_free, start_work}
 
 pub data Always {A : Type 0} (P : A → Type 0) : Work A → Type 0 where
   a_end : {a : A} → P a → Always P (yields a)
@@ -86,8 +86,8 @@ module _ (x : Mind) where
   unfolding at_flow
   at_flow_lem W i h = always_bind _ _ _ (λ r. flow r _ (W i) (a_end refl) h)
 
-  pub at_slot_lem : (W : ℕ → Flow → Work Answer) (o : Option ℕ) → ((i : ℕ) (f : Flow) → Timely x (W i f)) → Timely x (at_slot_lem x W o)
-  unfolding at_slot_lem
+  pub at_slot_lem : (W : ℕ → Flow → Work Answer) (o : Option ℕ) → ((i : ℕ) (f : Flow) → Timely x (W i f)) → Timely x (at_slot x W o)
+  unfolding at_slot
   at_slot_lem W o h = slot o _ _ (a_end refl) (λ i. at_flow_lem W i (h i))
 
   pub show_timely : (i : ℕ) (f : Flow) → Timely x (show_flow x i f)

@@ -1,15 +1,12 @@
 -- Examples, by computing. Assumes nothing.
-use Rattle.std.proofs.Common.{◌≡◌, ℕ, zero, suc, ◌+◌, ◌-◌, ◌*◌, ◌<◌, ◌≤◌, Bool, true, false, cond, not, ◌&&◌, ◌||◌, T, eqb, ltb, leb, ◌⊎◌, List, [], ◌∷◌, ◌++◌, length, codes, decimal, sym, refl, ap, ◌∙◌, subst, subst₂, inl, inr, le_refl, arith}
-use Rattle.std.proofs.lemmas.Bool.Decides.{nat_tests}
-use Rattle.plans.specs.Plan.{Name, Expr, Lit, Var, Plus, Minus, Times, Less, Same, Not, Stmt, Set, Do, Sleep, Hear, If, While, Guard, Return, FailNow, Block, done, then}
-use Rattle.text.specs.Token.{Key, SET, DO, TRIES, PAUSE, SLEEP, HEAR, FOR, IF, ELSE, WHILE, GUARD, RETURN, FAIL, NOT, OPEN, CLOSE, BEGIN, END, COMMA, Op, PLUS, MINUS, TIMES, LESS, SAME, Token, number, variable, name, op, key, Got, fails, got}
-use Rattle.text.specs.Grammar.{do_ok, Level, unary, product, sum, compare, Reads, literal, var, negation, bracket, factor, times, term, plus, minus, side, less, same, IsExpr, More, close, comma, Args, none, some, IsStmt, set, does, sleep, hear, if, while, guard, return, fail, IsPart, end, next, IsPlan}
-use Rattle.text.specs.Parser.{and_then, Parser, Join, joins, ends, on_join, product_op, sum_op, compare_op, more_s, chain_s, code_of, after, after_same, with_number, with_variable, with_name, if_ok, levels, in_bracket, by_word, unary_s, expr_s, closes, args_s, list_s, do_s, hear_s, assign_s, part_s, key_s, stmt_s, ended, block_s, plan_s}
+use Rattle.std.proofs.Common.{◌≡◌, ℕ, Bool, true, List, [], ◌∷◌, ◌++◌, codes, refl}
+use Rattle.plans.specs.Plan.{Lit, Var, Plus, Minus, Times, Less, Same, Not, Set, Do, Sleep, Hear, If, While, Guard, Return, FailNow, done, then}
+use Rattle.text.specs.Parser.{and_then, on_join, product_op, sum_op, compare_op, more_s, chain_s, code_of, after, after_same, with_number, with_variable, with_name, if_ok, levels, in_bracket, by_word, unary_s, expr_s, closes, args_s, list_s, do_s, hear_s, assign_s, part_s, key_s, stmt_s, ended, block_s, plan_s}
 use Rattle.std.specs.Fmt.{digits}
-use Rattle.plans.specs.Plan.{every, word_ok, same_name, size_of, stmt_size, expr_size, sizes}
-use Rattle.text.specs.Printer.{wrap, put, put_more, put_args, put_stmt, put_part, tokens_of, bracketed, between, expr_text, more_text, args_text, indent, line_stmt, lines_of, text_of}
-use Rattle.text.specs.Lexer.{spell, spell_op, both, or_else, value_from, number_of, key_in, key_of, name_of, variable_of, word_token, ended as endedWord, sign_at, goes, gives, lex, tokens_in, spelled}
-use Rattle.text.specs.Text.{Reading, nothing, plan, sized, whole, parsed, read_text}
+use Rattle.plans.specs.Plan.{every, same_name, size_of, stmt_size, expr_size, sizes}
+use Rattle.text.specs.Printer.{wrap, put, put_more, put_args, put_stmt, put_part, bracketed, between, expr_text, more_text, args_text, indent, line_stmt, lines_of, text_of}
+use Rattle.text.specs.Lexer.{spell, spell_op, both, or_else, value_from, number_of, key_in, key_of, name_of, variable_of, word_token, ended as endedWord, sign_at, goes, gives, lex, spelled}
+use Rattle.text.specs.Text.{nothing, plan, sized, whole, parsed, read_text}
 
 unfoldable pub runs : Bool
 unfolding read_text parsed whole sized size_of stmt_size expr_size sizes every same_name spell spell_op both or_else value_from number_of key_in key_of name_of variable_of word_token endedWord sign_at goes gives lex and_then on_join product_op sum_op compare_op more_s chain_s code_of after after_same with_number with_variable with_name if_ok levels in_bracket by_word unary_s expr_s closes args_s list_s do_s hear_s assign_s part_s key_s stmt_s ended block_s plan_s wrap put put_more put_args put_stmt put_part spelled bracketed between expr_text more_text args_text indent line_stmt lines_of digits

@@ -1,10 +1,9 @@
 -- What is in the grammar the reader reads: statements, parts, plans. Assumes nothing.
-use Rattle.std.proofs.Common.{◌≡◌, ℕ, zero, suc, ◌+◌, ◌-◌, ◌*◌, ◌<◌, ◌≤◌, Bool, true, false, cond, not, ◌&&◌, ◌||◌, T, eqb, ltb, leb, ◌⊎◌, List, [], ◌∷◌, ◌++◌, length, sym, refl, ap, ◌∙◌, subst, subst₂, inl, inr, le_refl, arith}
-use Rattle.std.proofs.lemmas.Bool.Decides.{nat_tests}
-use Rattle.plans.specs.Plan.{Name, Expr, Lit, Var, Plus, Minus, Times, Less, Same, Not, Stmt, Set, Do, Sleep, Hear, If, While, Guard, Return, FailNow, Block, done, then}
-use Rattle.text.specs.Token.{Key, SET, DO, TRIES, PAUSE, SLEEP, HEAR, FOR, IF, ELSE, WHILE, GUARD, RETURN, FAIL, NOT, OPEN, CLOSE, BEGIN, END, COMMA, Op, PLUS, MINUS, TIMES, LESS, SAME, Token, number, variable, name, op, key, Got, fails, got}
-use Rattle.text.specs.Grammar.{do_ok, Level, unary, product, sum, compare, Reads, literal, var, negation, bracket, factor, times, term, plus, minus, side, less, same, IsExpr, More, close, comma, Args, none, some, IsStmt, set, does, sleep, hear, if, while, guard, return, fail, IsPart, end, next, IsPlan}
-use Rattle.text.specs.Parser.{and_then, Parser, Join, joins, ends, on_join, product_op, sum_op, compare_op, more_s, chain_s, code_of, after, after_same, with_number, with_variable, with_name, if_ok, levels, in_bracket, by_word, unary_s, expr_s, closes, args_s, list_s, do_s, hear_s, assign_s, part_s, key_s, stmt_s, ended, block_s, plan_s}
+use Rattle.std.proofs.Common.{◌≡◌, ℕ, zero, suc, ◌<◌, ◌≤◌, true, false, List, [], ◌∷◌, length, refl, le_refl, arith}
+use Rattle.plans.specs.Plan.{Expr, Stmt, Block}
+use Rattle.text.specs.Token.{Key, BEGIN, Token, number, variable, name, op, key, got}
+use Rattle.text.specs.Grammar.{Level, Reads, literal, var, negation, bracket, factor, times, term, plus, minus, side, less, same, More, close, comma, Args, none, some, IsStmt, set, does, sleep, hear, if, while, guard, return, fail, IsPart, end, next, IsPlan}
+use Rattle.text.specs.Parser.{and_then, product_op, sum_op, compare_op, code_of, after, after_same, with_number, with_variable, with_name, if_ok, closes, args_s, list_s, do_s, hear_s, assign_s, part_s, key_s, stmt_s, ended, block_s, plan_s}
 use Rattle.text.proofs.Complete.{Fresh, shorter, expr_complete}
 
 -- what can follow an expression: no token that joins

@@ -1,7 +1,7 @@
 -- What the lexer finds is the first token of what is ahead. Assumes nothing.
-use Rattle.std.proofs.Common.{◌≡◌, ℕ, zero, suc, ◌+◌, ◌-◌, ◌<◌, ◌≤◌, Bool, true, false, cond, not, ◌&&◌, ◌||◌, eqb, ltb, leb, List, [], ◌∷◌, ◌++◌, length, get_or, take, drop, sym, refl, ap, ◌∙◌, subst, add-one, arith, length-drop, length-take, drop-cons}
+use Rattle.std.proofs.Common.{◌≡◌, ℕ, suc, ◌+◌, ◌-◌, ◌<◌, ◌≤◌, true, false, eqb, List, [], ◌∷◌, length, get_or, take, drop, sym, refl, ap, ◌∙◌, add-one, arith, length-drop, length-take, drop-cons}
 use Rattle.std.proofs.lemmas.Bool.Decides.{nat_tests}
-use Rattle.text.specs.Lexer.{Lexed, wrong, tokens, both, ended, word_token, word_byte, sign_of, sign_at, Mode, word, remark, goes, gives, lex, tokens_in}
+use Rattle.text.specs.Lexer.{Lexed, both, ended, word_token, word_byte, sign_of, sign_at, word, goes, gives, lex, tokens_in}
 use Rattle.text.specs.Gaps.{goes_on}
 use Rattle.text.proofs.Lexed.{both_nil}
 

@@ -1,10 +1,10 @@
 -- What is written is read back as the same tokens; and what the tokens of a text are like. Assumes nothing.
-use Rattle.std.proofs.Common.{◌≡◌, ℕ, zero, suc, ◌+◌, ◌-◌, ◌*◌, ◌^◌, ◌<◌, ◌≤◌, Bool, true, false, cond, not, ◌&&◌, ◌||◌, T, eqb, ltb, leb, ◌⊎◌, List, [], ◌∷◌, ◌++◌, length, get_or, replicate, codes, decimal, sym, refl, ap, ◌∙◌, subst, subst₂, inl, inr, append_assoc, append-nil, le_refl, arith, rules}
+use Rattle.std.proofs.Common.{◌≡◌, ℕ, zero, suc, ◌<◌, Bool, true, false, cond, not, ◌&&◌, ◌||◌, eqb, ltb, leb, List, [], ◌∷◌, ◌++◌, length, get_or, replicate, decimal, sym, refl, ap, ◌∙◌, subst, append_assoc, append-nil, arith, rules}
 use Rattle.std.proofs.lemmas.Bool.Decides.{nat_tests}
 use Rattle.std.specs.Str.{all_ascii_digits}
 use Rattle.std.proofs.lemmas.Str.Parse.{IsNumeralModel, numerals_by_fold}
-use Rattle.std.proofs.lemmas.Fmt.{digits_decimal, digits_value-decimal, decimal_nonempty, first_decimal, decimal_digit, length-decimal-le}
-use Rattle.plans.specs.Plan.{Name, every, same_name, word_ok_lem, name_ok}
+use Rattle.std.proofs.lemmas.Fmt.{digits_decimal, digits_value-decimal, decimal_nonempty, first_decimal, decimal_digit}
+use Rattle.plans.specs.Plan.{every, same_name, word_ok, name_ok}
 use Rattle.text.specs.Token.{Key, SET, DO, TRIES, PAUSE, SLEEP, HEAR, FOR, IF, ELSE, WHILE, GUARD, RETURN, FAIL, NOT, OPEN, CLOSE, BEGIN, END, COMMA, Op, PLUS, MINUS, TIMES, LESS, SAME, Token, number, variable, name, op, key}
 use Rattle.text.specs.Lexer.{spell, spell_op, Lexed, wrong, tokens, both, or_else, is_wrong, one, value_from, top, number_of, key_in, key_of, name_of, plain_digits, variable_of, word_token, ended, word_byte, sign_at, Mode, word, remark, goes, gives, lex, tokens_in, token_ok, spelled}
 use Rattle.text.proofs.Printed.{and_left, and_right, and_both}
@@ -103,7 +103,7 @@ variable_spelled v h =
     let a : all_ascii_digits (decimal v) ≡ true = digits_decimal own v big in
     let l : 0 < length (decimal v) = decimal_nonempty v big in
     let m : every (λ (b : ℕ). leb 97 b && leb b 122) (decimal v) ≡ false = no_name (decimal v) a l in
-    let w : word_ok_lem (118 ∷ decimal v) ≡ false = rw m (and_false _) in
+    let w : word_ok (118 ∷ decimal v) ≡ false = rw m (and_false _) in
     let p : plain_digits (decimal v) ≡ true = plain_decimal v big in
     let y : ltb v 64 ≡ true = grind (arith, nat_tests) in
     rw (w, p, x, y) refl
@@ -112,7 +112,7 @@ wrong_is : (r : Lexed) → is_wrong r ≡ true → r ≡ wrong
 wrong_is wrong h = refl
 wrong_is (tokens ts) h = let z : ◌≡◌ {A = ℕ} 0 1 = cc in absurd (omega arith)
 
-letters_no_number : (w : List ℕ) → word_ok_lem w ≡ true → all_ascii_digits w ≡ false
+letters_no_number : (w : List ℕ) → word_ok w ≡ true → all_ascii_digits w ≡ false
 unfolding every
 letters_no_number [] h = let z : ◌≡◌ {A = ℕ} 0 1 = cc in absurd (omega arith)
 letters_no_number (b ∷ bs) h =
@@ -124,8 +124,8 @@ letters_no_number (b ∷ bs) h =
 pub name_spelled : (w : List ℕ) → token_ok (name w) ≡ true → word_token w ≡ tokens (name w ∷ [])
 unfolding word_token number_of name_of or_else token_ok
 name_spelled w h =
-    let a : word_ok_lem w ≡ true = and_left (word_ok_lem w) (is_wrong (key_of w)) h in
-    let k : key_of w ≡ wrong = wrong_is (key_of w) (and_right (word_ok_lem w) (is_wrong (key_of w)) h) in
+    let a : word_ok w ≡ true = and_left (word_ok w) (is_wrong (key_of w)) h in
+    let k : key_of w ≡ wrong = wrong_is (key_of w) (and_right (word_ok w) (is_wrong (key_of w)) h) in
     rw (letters_no_number w a, k, a) refl
 
 letters_words : (w : List ℕ) → every (λ (b : ℕ). leb 97 b && leb b 122) w ≡ true → every word_byte w ≡ true
@@ -238,7 +238,7 @@ token_back (variable v) h a r =
     let b : v < top = omega arith in
     word_back (variable v) (118 ∷ decimal v) (omega arith) (digits_words (decimal v) (digits_decimal own v b)) (variable_spelled v s) a r
 token_back (name w) h a r =
-    let i : word_ok_lem w ≡ true = and_left (word_ok_lem w) (is_wrong (key_of w)) h in
+    let i : word_ok w ≡ true = and_left (word_ok w) (is_wrong (key_of w)) h in
     let e : every (λ (c : ℕ). leb 97 c && leb c 122) w ≡ true = and_right (name_ok w) (every (λ (c : ℕ). leb 97 c && leb c 122) w) i in
     let n : name_ok w ≡ true = and_left (name_ok w) (every (λ (c : ℕ). leb 97 c && leb c 122) w) i in
     let l : ltb 0 (length w) ≡ true = and_left (ltb 0 (length w)) (leb (length w) 64) (and_left (ltb 0 (length w) && leb (length w) 64) (every (λ (b : ℕ). ltb b 256) w) n) in
@@ -291,7 +291,7 @@ word_ok_lem : (w : List ℕ) → AllOk (word_token w)
 unfolding word_token number_of name_of key_of token_ok
 word_ok_lem w =
     or_ok (number_of w) _ (one_ok _ _ (λ h. and_right (all_ascii_digits w) (ltb (value_from 0 w) top) h))
-    (λ _. or_ok (key_of w) _ (key_in_ok _ w) (λ k. or_ok (name_of w) _ (one_ok _ _ (λ h. and_both (word_ok_lem w) (is_wrong (key_of w)) h k)) (λ _. variable_ok w)))
+    (λ _. or_ok (key_of w) _ (key_in_ok _ w) (λ k. or_ok (name_of w) _ (one_ok _ _ (λ h. and_both (word_ok w) (is_wrong (key_of w)) h k)) (λ _. variable_ok w)))
 
 ended_ok : (w : List ℕ) → AllOk (ended w)
 unfolding ended every

@@ -1,11 +1,11 @@
 -- The turns of the loop that reads a number. Assumes nothing.
-use Rattle.std.proofs.Common.{◌≡◌, ℕ, zero, suc, ◌+◌, ◌-◌, ◌*◌, ◌<◌, ◌≤◌, Bool, true, false, cond, not, ◌&&◌, ◌||◌, T, eqb, ltb, leb, ◌⊎◌, List, [], ◌∷◌, ◌++◌, length, get_or, drop, Some, None, Option, sym, refl, ap, ◌∙◌, subst, subst₂, inl, inr, le_refl, add-one, arith, drop-cons}
+use Rattle.std.proofs.Common.{◌≡◌, ℕ, suc, ◌+◌, ◌-◌, ◌*◌, ◌<◌, ◌≤◌, Bool, true, false, ◌&&◌, ltb, leb, List, [], ◌∷◌, length, get_or, drop, Some, None, refl, le_refl, add-one, arith, drop-cons}
 use Rattle.std.proofs.lemmas.Bool.Decides.{nat_tests}
 use Rattle.std.specs.Str.{all_ascii_digits}
 use Rattle.std.proofs.lemmas.List.{drop_all}
 use Rattle.text.specs.Token.{number}
-use Rattle.text.specs.Lexer.{Lexed, wrong, tokens, one, value_from, top, number_of}
-use Rattle.text.specs.Numbers.{Stepped, numbered, number_from}
+use Rattle.text.specs.Lexer.{wrong, tokens, one, value_from, top, number_of}
+use Rattle.text.specs.Numbers.{Stepped, number_from}
 
 value_ge : (n : ℕ) (ds : List ℕ) → n ≤ value_from n ds
 unfolding value_from

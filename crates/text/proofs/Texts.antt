@@ -1,17 +1,16 @@
 -- The text of a plan: at most one plan, read exactly, and written so that it is read back. Assumes nothing.
-use Rattle.std.proofs.Common.{◌≡◌, ℕ, zero, suc, ◌+◌, ◌-◌, ◌*◌, ◌^◌, ◌<◌, ◌≤◌, max, Bool, true, false, cond, not, ◌&&◌, ◌||◌, T, eqb, ltb, leb, ◌⊎◌, List, [], ◌∷◌, ◌++◌, length, get_or, decimal, sym, refl, ap, ◌∙◌, subst, subst₂, inl, inr, append_assoc, append-nil, le_refl, arith, length-append}
+use Rattle.std.proofs.Common.{◌≡◌, ℕ, suc, ◌<◌, ◌≤◌, Bool, true, false, cond, not, ◌&&◌, eqb, ltb, leb, List, [], ◌∷◌, ◌++◌, length, refl, ap, subst, append_assoc, append-nil, arith}
 use Rattle.std.proofs.lemmas.Bool.Decides.{nat_tests}
 use Rattle.plans.specs.Plan.{Name, Expr, Lit, Var, Plus, Minus, Times, Less, Same, Not, Stmt, Set, Do, Sleep, Hear, If, While, Guard, Return, FailNow, Block, done, then}
-use Rattle.text.specs.Token.{Key, SET, DO, TRIES, PAUSE, SLEEP, HEAR, FOR, IF, ELSE, WHILE, GUARD, RETURN, FAIL, NOT, OPEN, CLOSE, BEGIN, END, COMMA, Op, PLUS, MINUS, TIMES, LESS, SAME, Token, number, variable, name, op, key, Got, fails, got}
-use Rattle.text.specs.Grammar.{do_ok, Level, unary, product, sum, compare, Reads, literal, var, negation, bracket, factor, times, term, plus, minus, side, less, same, IsExpr, More, close, comma, Args, none, some, IsStmt, set, does, sleep, hear, if, while, guard, return, fail, IsPart, end, next, IsPlan}
-use Rattle.std.proofs.lemmas.Fmt.{length-decimal-le}
-use Rattle.plans.specs.Plan.{every, expr_ok, stmt_ok, block_ok, name_ok, word_ok, expr_size, sizes, stmt_size, size_of}
+use Rattle.text.specs.Token.{SET, DO, TRIES, PAUSE, SLEEP, HEAR, FOR, IF, ELSE, WHILE, GUARD, RETURN, FAIL, NOT, OPEN, CLOSE, BEGIN, END, COMMA, Op, PLUS, MINUS, TIMES, LESS, SAME, Token, number, variable, name, op, key, Got, fails, got}
+use Rattle.text.specs.Grammar.{do_ok, Level, unary, product, sum, compare, Reads, literal, var, negation, bracket, factor, times, term, plus, minus, side, less, same, More, close, comma, Args, none, some, IsStmt, set, does, sleep, hear, if, while, guard, return, fail, IsPart, end, next}
+use Rattle.plans.specs.Plan.{every, expr_ok, stmt_ok, block_ok, word_ok, size_of}
 use Rattle.text.specs.Parser.{plan_s}
-use Rattle.text.specs.Printer.{rank, wrap, fits, put, put_more, put_args, put_stmt, put_part, tokens_of, part_deep, bracketed, between, expr_text, more_text, args_text, indent, line_stmt, lines_of, text_of}
+use Rattle.text.specs.Printer.{wrap, fits, put, put_more, put_args, put_stmt, put_part, tokens_of, bracketed, between, expr_text, more_text, args_text, indent, line_stmt, lines_of, text_of}
 use Rattle.text.specs.Lexer.{spell, spell_op, Lexed, wrong, tokens, key_of, is_wrong, top, tokens_in, token_ok, spelled}
-use Rattle.text.specs.Text.{IsText, Reading, nothing, plan, sized, whole, parsed, read_text, stmt_named, named, Sayable}
+use Rattle.text.specs.Text.{IsText, nothing, plan, sized, whole, parsed, read_text, stmt_named, named, Sayable}
 use Rattle.text.proofs.Printed.{and_left, and_right, and_both, part_deep_lem, put_part_lem}
-use Rattle.text.proofs.Completes.{plan_complete, one_plan}
+use Rattle.text.proofs.Completes.{plan_complete}
 use Rattle.text.proofs.Sounds.{plan_sound}
 use Rattle.text.proofs.Lexed.{lexed_ok, apart, Lexes, blank, newline, blanks, nothing_more, token_back}
 

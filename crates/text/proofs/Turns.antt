@@ -1,14 +1,12 @@
 -- The turns of the loops that read a text's bytes. Assumes nothing.
-use Rattle.std.proofs.Common.{◌≡◌, ℕ, zero, suc, ◌+◌, ◌-◌, ◌*◌, ◌<◌, ◌≤◌, Bool, true, false, cond, not, ◌&&◌, ◌||◌, T, eqb, ltb, leb, ◌⊎◌, List, [], ◌∷◌, ◌++◌, length, get_or, take, drop, sym, refl, ap, ◌∙◌, subst, subst₂, inl, inr, append_assoc, append-nil, le_refl, add-one, arith, length-drop, drop-cons}
+use Rattle.std.proofs.Common.{◌≡◌, ℕ, suc, ◌+◌, ◌-◌, ◌<◌, ◌≤◌, Bool, true, false, cond, not, eqb, List, [], ◌∷◌, ◌++◌, length, get_or, take, drop, sym, refl, ap, ◌∙◌, le_refl, add-one, arith, length-drop, drop-cons}
 use Rattle.std.proofs.lemmas.Bool.Decides.{nat_tests}
 use Rattle.std.proofs.lemmas.List.{drop_all, take_more, get_or-drop}
-use Rattle.plans.specs.Plan.{every}
-use Rattle.text.specs.Token.{Token}
-use Rattle.text.specs.Lexer.{Lexed, wrong, tokens, both, ended, word_byte_lem, sign_at, Mode, word, remark, goes, gives, lex, tokens_in}
+use Rattle.text.specs.Lexer.{both, ended, word_byte, sign_at, word, remark, goes, gives, lex, tokens_in}
 use Rattle.text.specs.Gaps.{goes_on, in_remark, mode_of}
 use Rattle.text.proofs.Lexed.{both_nil, word_stop, word_end}
 
-gap_word : (b : ℕ) → goes_on false b ≡ true → word_byte_lem b ≡ false
+gap_word : (b : ℕ) → goes_on false b ≡ true → word_byte b ≡ false
 gap_word b h = grind (arith, nat_tests)
 
 gap_byte : (r : Bool) (b : ℕ) (bs : List ℕ) → goes_on r b ≡ true → lex (mode_of (in_remark r b)) bs ≡ lex (mode_of r) (b ∷ bs)
@@ -37,11 +35,11 @@ pub gap_end : (text : List ℕ) (pos : ℕ) (r : Bool) → length text ≤ pos �
 gap_end text pos r l = rw (drop_all pos text l) (sym (mode_end r))
 
 -- words
-word_byte_lem : (w : List ℕ) (b : ℕ) (bs : List ℕ) → word_byte_lem b ≡ true → lex (word (w ++ (b ∷ []))) bs ≡ lex (word w) (b ∷ bs)
+word_byte_lem : (w : List ℕ) (b : ℕ) (bs : List ℕ) → word_byte b ≡ true → lex (word (w ++ (b ∷ []))) bs ≡ lex (word w) (b ∷ bs)
 unfolding lex gives goes
 word_byte_lem w b bs h = rw (h, both_nil) refl
 
-pub word_turn : (text : List ℕ) (from pos : ℕ) → from ≤ pos → pos < length text → word_byte_lem (get_or text pos 0) ≡ true →
+pub word_turn : (text : List ℕ) (from pos : ℕ) → from ≤ pos → pos < length text → word_byte (get_or text pos 0) ≡ true →
     lex (word (take (pos + 1 - from) (drop from text))) (drop (pos + 1) text) ≡ lex (word (take (pos - from) (drop from text))) (drop pos text)
 word_turn text from pos f l h =
     let e : pos + 1 - from ≡ (pos - from) + 1 = omega arith in
@@ -51,14 +49,14 @@ word_turn text from pos f l h =
     ap (λ (k : ℕ). take k (drop from text)) e ∙ (take_more (drop from text) (pos - from) 0 (simp length-drop (omega arith)) ∙ ap (λ (k : ℕ). take (pos - from) (drop from text) ++ (k ∷ [])) g) in
     rw (m, drop-cons text pos 0 l, add-one) (word_byte_lem (take (pos - from) (drop from text)) (get_or text pos 0) (drop (suc pos) text) h)
 
-pub word_stops : (text w : List ℕ) (pos : ℕ) → pos < length text → word_byte_lem (get_or text pos 0) ≡ false → both (ended w) (tokens_in (drop pos text)) ≡ lex (word w) (drop pos text)
+pub word_stops : (text w : List ℕ) (pos : ℕ) → pos < length text → word_byte (get_or text pos 0) ≡ false → both (ended w) (tokens_in (drop pos text)) ≡ lex (word w) (drop pos text)
 word_stops text w pos l h = rw (drop-cons text pos 0 l) (word_stop w (get_or text pos 0) (drop (suc pos) text) h)
 
 pub word_ends : (text w : List ℕ) (pos : ℕ) → length text ≤ pos → both (ended w) (tokens_in (drop pos text)) ≡ lex (word w) (drop pos text)
 word_ends text w pos l = rw (drop_all pos text l) (word_end w)
 
 -- the first byte of a word
-pub word_begins : (text : List ℕ) (from : ℕ) → from < length text → word_byte_lem (get_or text from 0) ≡ true →
+pub word_begins : (text : List ℕ) (from : ℕ) → from < length text → word_byte (get_or text from 0) ≡ true →
     lex (word (take (from + 1 - from) (drop from text))) (drop (from + 1) text) ≡ tokens_in (drop from text)
 word_begins text from l h =
     let z : from - from ≡ 0 = omega arith in

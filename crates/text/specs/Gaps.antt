@@ -1,5 +1,5 @@
 -- Between the tokens. Assumes nothing.
-use Rattle.std.specs.Prelude.{ℕ, Bool, true, false, cond, not, ◌||◌, List, [], ◌==◌}
+use Rattle.std.specs.Prelude.{ℕ, Bool, true, false, cond, not, ◌||◌, [], ◌==◌}
 use Rattle.text.specs.Lexer.{Mode, word, remark}
 
 abbrev pub goes_on : Bool → ℕ → Bool

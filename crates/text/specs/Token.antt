@@ -1,6 +1,6 @@
 -- The tokens of a plan's text. Assumes nothing.
-use Rattle.std.specs.Prelude.{◌≡◌, ℕ, zero, suc, ◌+◌, ◌-◌, ◌*◌, ◌<◌, ◌≤◌, Bool, true, false, cond, not, ◌&&◌, ◌||◌, eqb, ltb, leb, List, [], ◌∷◌, ◌++◌, length}
-use Rattle.plans.specs.Plan.{Name, every, same_name}
+use Rattle.std.specs.Prelude.{ℕ, List}
+use Rattle.plans.specs.Plan.{Name}
 
 pub data Key : Type 0 where
   SET DO TRIES PAUSE SLEEP HEAR FOR IF ELSE WHILE GUARD RETURN FAIL NOT OPEN CLOSE BEGIN END COMMA : Key

@@ -1,4 +1,4 @@
-use Rattle.std.proofs.Common.{◌-◌, get_or, take, drop, sym, refl, ◌∙◌, arith}
+use Rattle.std.proofs.Common.{sym, refl, ◌∙◌, arith}
 use Rattle.text.proofs.Lexed.{both_nil}
 use Rattle.text.proofs.Found.{sign_found, word_found, never_stops}
 use Rattle.text.proofs.token_at.Goals as goal

@@ -1,4 +1,3 @@
-use Rattle.std.proofs.Common.{sym, ◌∙◌, arith}
 use Rattle.std.proofs.lemmas.Result.{err_from_is_err_and}
 use Rattle.plans.proofs.Evals.{not_one, just_one, no_run, never_worth, same_worth, worth_is}
 use Rattle.plans.proofs.eval.eval.Goals as goal

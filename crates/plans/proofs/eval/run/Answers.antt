@@ -1,4 +1,4 @@
-use Rattle.std.proofs.Common.{◌≡◌, ℕ, ◌+◌, ◌<◌, ◌≤◌, ◌⊎◌, [], length, get_or, sym, refl, ap, ◌∙◌, subst, arith}
+use Rattle.std.proofs.Common.{ℕ, ◌+◌, ◌<◌, ◌≤◌, ◌⊎◌, [], length, get_or, sym, ◌∙◌, subst, arith}
 use Rattle.plans.proofs.Evals.{bool_byte_is, halts, too_short, push_full, push_turn_lem, load_bad, load_turn, pair_bad, pair_turn, negate_bad, negate_turn}
 use Rattle.plans.proofs.eval.run.Goals as goal
 

@@ -1,9 +1,9 @@
-use Rattle.std.proofs.Common.{◌≡◌, ◌+◌, ◌*◌, [], ◌∷◌, ◌++◌, get_or, take, drop, Ok, Err, sym, refl, ap, ◌∙◌, subst, add-one, arith}
+use Rattle.std.proofs.Common.{◌≡◌, ◌+◌, ◌*◌, [], ◌∷◌, ◌++◌, get_or, take, drop, Err, sym, ◌∙◌, arith}
 use Rattle.std.proofs.lemmas.Result.{err_from_is_err_and}
-use Rattle.plans.specs.Plan.{Expr, Stmt, Block, If, While, Guard, expr_size, size_of}
-use Rattle.plans.specs.Flat.{Way, To, way_word, draft_stmt, draft_of, lay_stmt, lay}
+use Rattle.plans.specs.Plan.{Stmt, Block, size_of}
+use Rattle.plans.specs.Flat.{To, draft_stmt, draft_of, lay_stmt, lay}
 use Rattle.plans.specs.Sheet.{nothing, Written, WrittenTo}
-use Rattle.plans.proofs.Parts.{first_piece, second_piece, third_piece, fourth_piece, all_pieces, to_written, to_whole, if_parts, if_whole, while_parts, while_whole, guard_parts, guard_whole, way_to, part_big, Begins, empty, begins, begins_with, behind_is, steps, part_linked, part_refused, is_if, is_while, is_guard, is_simple_lem, end_linked, not_damaged, by_statement, some_size}
+use Rattle.plans.proofs.Parts.{first_piece, second_piece, third_piece, fourth_piece, all_pieces, to_written, to_whole, if_parts, if_whole, while_parts, while_whole, guard_parts, guard_whole, way_to, part_big, behind_is, steps, part_linked, part_refused, is_if, is_while, is_guard, is_simple_lem, end_linked, not_damaged, by_statement, some_size}
 use Rattle.plans.proofs.Drafts.{lay_length}
 use Rattle.plans.proofs.Simple.{head_at, written_short}
 use Rattle.plans.proofs.link.+link_guard_link_if_link_part_link_statement_link_while.Goals as goal

@@ -1,6 +1,6 @@
-use Rattle.std.proofs.Common.{◌≡◌, [], length, sym, refl, ap, ◌∙◌, subst, append-nil, arith}
+use Rattle.std.proofs.Common.{[], length, sym, ap, ◌∙◌, append-nil, arith}
 use Rattle.std.proofs.lemmas.Result.{err_from_is_err_and}
-use Rattle.plans.specs.Flat.{draft_of, Nowhere, lay, laid}
+use Rattle.plans.specs.Flat.{draft_of, Nowhere}
 use Rattle.plans.proofs.Drafts.{draft_length}
 use Rattle.plans.proofs.Parts.{some_size, laid_refused, laid_is, no_way}
 use Rattle.plans.proofs.link.link.Goals as goal
