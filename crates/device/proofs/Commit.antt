@@ -1,14 +1,14 @@
 -- The flip: work that leaves alone what the state rests on, then one store that changes the state.
 -- Assumes nothing.
-use mathlib.Core.Path.{◌≡◌, refl, sym, ◌∙◌}
+use mathlib.Core.Path.{◌≡◌, refl, ◌∙◌}
 use mathlib.Core.Logic.{◌⊎◌, inl, inr}
-use mathlib.Core.Bool.{Bool, true, false}
+use mathlib.Core.Bool.{true, false}
 use Prim.Native.Nat.{ℕ, ◌<◌}
 use lib.Dec.{eqb}
 use borrow.Author.Tests.{both_ways}
-use Rattle.device.specs.Lines.{Lines, stored, pushed_back, fenced, Left, Work, yields, load, store, push, fence}
+use Rattle.device.specs.Lines.{Lines, stored, pushed_back, fenced, Left, Work}
 use Rattle.device.specs.Does.{bind}
-use Rattle.device.specs.Safe.{Safe, s_end, s_load, s_store, s_push, s_fence}
+use Rattle.device.specs.Safe.{Safe, s_end, s_store, s_push, s_fence}
 use Rattle.device.specs.Images.{Image, upd, All, None, At, Agree, Back}
 use Rattle.device.specs.Flips.{commit_work, Rests, Amid, Prepared, FlipStands}
 use Rattle.device.proofs.Safe.{safe_bind, safe_more, safe_of, safe_safely}

@@ -1,12 +1,12 @@
 -- Costs add up.
 -- Assumes nothing.
-use mathlib.Core.Path.{◌≡◌, refl, sym, subst}
-use Prim.Native.Nat.{ℕ, zero, suc, ◌+◌, ◌-◌, ◌*◌, ◌<◌, ◌≤◌}
+use mathlib.Core.Path.{◌≡◌, subst}
+use Prim.Native.Nat.{ℕ, zero, suc, ◌+◌, ◌*◌, ◌<◌, ◌≤◌}
 use native.Mathlib.Omega.{arith}
 use native.Mathlib.Nat.{suc-mul}
-use Rattle.device.specs.Lines.{Work, yields, load, store, push, fence}
+use Rattle.device.specs.Lines.{Work}
 use Rattle.device.specs.Does.{Op, bind, loop_from, Did, d_end, d_load, d_store, d_push, d_fence}
-use Rattle.device.specs.Costs.{Costs, c_end, c_load, c_store, c_push, c_fence, Count, count_of, Below, Any}
+use Rattle.device.specs.Costs.{Costs, c_end, c_load, c_store, c_push, c_fence, count_of, Below}
 use Rattle.device.specs.Flips.{commit_work, FlipCosts}
 
 pub costs_more : {A : Type 0} {Q Q' : A → Type 0} → ((a : A) → Q a → Q' a) → {l s p f : ℕ} {w : Work A} → Costs Q l s p f w → {l' s' p' f' : ℕ} → l ≤ l' → s ≤ s' → p ≤ p' → f ≤ f' → Costs Q' l' s' p' f' w

@@ -1,12 +1,12 @@
 -- Work in parts, and work on memory that gives what was stored last.
 -- Assumes nothing.
-use mathlib.Core.Path.{◌≡◌, refl, sym, subst, ◌∙◌}
+use mathlib.Core.Path.{◌≡◌, refl, subst, ◌∙◌}
 use mathlib.Core.Bool.{Bool, true, false}
 use Prim.Native.Nat.{ℕ}
 use borrow.Author.Tests.{both_ways}
-use Rattle.device.specs.Lines.{Lines, Work, yields, load, store, push, fence, Worked, w_end, w_load, w_store, w_push, w_fence, Partly, p_here, p_load, p_store, p_push, p_fence}
-use Rattle.device.specs.Does.{Op, Loaded, Stored, Pushed, Fenced, bind, Did, d_end, d_load, d_store, d_push, d_fence}
-use Rattle.device.specs.Ties.{Follows, Coheres, Ties}
+use Rattle.device.specs.Lines.{Lines, Work, load, store, push, fence, Worked, w_end, w_load, w_store, w_push, w_fence, Partly, p_here, p_load, p_store, p_push, p_fence}
+use Rattle.device.specs.Does.{Op, bind, Did, d_end, d_load, d_store, d_push, d_fence}
+use Rattle.device.specs.Ties.{Coheres}
 
 pub did_bind : {S : Type 0} {step : S → Op → S → Type 0} {A B : Type 0} {w : Work A} {s t u : S} {a : A} {b : B} (k : A → Work B)
     → Did step w s a t → Did step (k a) t b u → Did step (bind w k) s b u

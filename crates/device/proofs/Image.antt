@@ -1,15 +1,15 @@
 -- What operations and power failures do to lines, by the image that is seen of them.
 -- Assumes nothing.
-use mathlib.Core.Path.{◌≡◌, refl, sym, ap, subst, ◌∙◌}
+use mathlib.Core.Path.{◌≡◌, refl, sym, ap, ◌∙◌}
 use mathlib.Core.Logic.{◌⊎◌, inl, inr}
 use mathlib.Core.Bool.{Bool, true, false, cond}
 use mathlib.Core.List.{List, [], ◌∷◌, ◌++◌}
-use Prim.Native.Nat.{ℕ, zero, suc, ◌+◌, ◌<◌, ◌≤◌}
+use Prim.Native.Nat.{ℕ, zero, suc}
 use lib.Dec.{eqb}
 use lib.ListN.{length}
-use borrow.Author.Tests.{eqb-true, eqb-false, eq-eqb, ne_eqb, both_ways}
-use Rattle.device.specs.Lines.{Line, Lines, fresh_lines, applied, first_of, drop_of, seen, put_line, stored, pushed_back, fenced, Left}
-use Rattle.device.specs.Images.{Image, upd, All, None, At, Agree, Back, Rules}
+use borrow.Author.Tests.{eqb-true, eq-eqb, both_ways}
+use Rattle.device.specs.Lines.{Line, Lines, fresh_lines, applied, first_of, drop_of, seen, stored, pushed_back, fenced, Left}
+use Rattle.device.specs.Images.{Image, upd, All, None, At, Back, Rules}
 
 -- ---- lists of stores
 

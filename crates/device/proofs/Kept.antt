@@ -1,48 +1,10 @@
 -- An engine that keeps an invariant makes sense, and stays within its lines.
 -- Assumes nothing.
-use mathlib.Core.Path.{◌≡◌, refl}
-use mathlib.Core.Logic.{◌⊎◌, inl, inr}
-use mathlib.Core.List.{List, [], ◌∷◌}
-use Prim.Native.Nat.{ℕ, ◌<◌}
-use Rattle.device.specs.Lines.{
-  Lines,
-  fresh_lines,
-  Left,
-  Work,
-  Worked,
-  Partly,
-  Within,
-  Engine,
-  Event,
-  says,
-  fails_in,
-  fails,
-  Sense,
-  MakesSense,
-  nothing,
-  answer,
-  undone,
-  was_done,
-  dark,
-  FromDark,
-  stays,
-  rises,
-  fails_rising,
-  FromLight,
-  rests,
-  does,
-  fails_doing,
-  fails_resting,
-  InDark,
-  new',
-  from_rising,
-  from_doing,
-  from_resting,
-  InLight,
-  risen,
-  done,
-}
-use Rattle.device.specs.Safe.{Safe, Kept}
+use mathlib.Core.Logic.{inl, inr}
+use mathlib.Core.List.{List}
+use Prim.Native.Nat.{ℕ}
+use Rattle.device.specs.Lines.{Lines, Within, Engine, Event, Sense, MakesSense, nothing, answer, undone, was_done, dark, FromDark, stays, rises, fails_rising, FromLight, rests, does, fails_doing, fails_resting, InDark, new', from_rising, from_doing, from_resting, InLight, risen, done}
+use Rattle.device.specs.Safe.{Kept}
 use Rattle.device.proofs.Safe.{safe_partly, safe_worked, safe_within}
 
 module _ {C R : Type 0} (N : ℕ) (e : Engine C R) (j : Sense C R) (Dark : j.State → Lines → Type 0) (Light : j.State → e.Mind → Lines → Type 0) (k : Kept N e j Dark Light) where

@@ -1,13 +1,13 @@
 -- Any loop that counts: its turns in the code, and its safety as work.
 -- Assumes nothing.
-use mathlib.Core.Path.{◌≡◌, refl, sym, subst}
+use mathlib.Core.Path.{◌≡◌, sym, subst}
 use Prim.Native.Nat.{ℕ, zero, suc, ◌+◌, ◌-◌, ◌<◌, ◌≤◌}
 use native.Mathlib.Omega.{arith}
-use Rattle.device.specs.Lines.{Lines, Work, yields}
-use Rattle.device.specs.Does.{Op, bind, loop_from, Did, d_end, Leads, Turning}
+use Rattle.device.specs.Lines.{Lines, Work}
+use Rattle.device.specs.Does.{Op, loop_from, Did, d_end, Turning}
 use Rattle.device.proofs.Did.{did_bind}
 use Rattle.device.specs.Safe.{Safe, s_end}
-use Rattle.device.proofs.Safe.{safe_bind, safe_more, safe_here}
+use Rattle.device.proofs.Safe.{safe_bind, safe_more}
 
 module _ {S : Type 0} (step : S → Op → S → Type 0) {A : Type 0} (body : ℕ → A → Work A) (i n : ℕ) where
   pub loop_none : (a : A) (s : S) → Turning step body 0 n a s a s

@@ -1,41 +1,9 @@
 -- Work that is safe: what follows from it, and how it is put together.
 -- Assumes nothing.
-use mathlib.Core.Path.{◌≡◌, refl}
-use Prim.Native.Nat.{ℕ, ◌<◌}
-use Rattle.device.specs.Lines.{
-  Line,
-  Lines,
-  seen,
-  stored,
-  pushed_back,
-  fenced,
-  Work,
-  yields,
-  load,
-  store,
-  push,
-  fence,
-  Worked,
-  w_end,
-  w_load,
-  w_store,
-  w_push,
-  w_fence,
-  Partly,
-  p_here,
-  p_load,
-  p_store,
-  p_push,
-  p_fence,
-  Within,
-  i_end,
-  i_load,
-  i_store,
-  i_push,
-  i_fence,
-}
+use Prim.Native.Nat.{ℕ}
+use Rattle.device.specs.Lines.{Lines, Work, Worked, w_end, w_load, w_store, w_push, w_fence, Partly, p_here, p_load, p_store, p_push, p_fence, Within, i_end, i_load, i_store, i_push, i_fence}
 use Rattle.device.specs.Does.{bind}
-use Rattle.device.specs.Safe.{Safe, s_end, s_load, s_store, s_push, s_fence, Safely, SafeMeans, SafeBinds}
+use Rattle.device.specs.Safe.{Safe, s_end, s_load, s_store, s_push, s_fence, Safely, SafeMeans}
 
 module _ {A : Type 0} {N : ℕ} {Q : A → Lines → Type 0} {R : Lines → Type 0} where
   pub safe_here : {w : Work A} {m : Lines} → Safe N Q R w m → R m

@@ -1,8 +1,8 @@
 -- What work costs at most, whatever its loads give.
 -- Assumes nothing.
-use Rattle.std.specs.Prelude.{ℕ, zero, suc, ◌+◌, ◌≤◌}
+use Rattle.std.specs.Prelude.{ℕ, ◌+◌, ◌≤◌}
 use Rattle.device.specs.Lines.{Work, yields, load, store, push, fence}
-use Rattle.device.specs.Does.{Op, Loaded, Stored, Pushed, Fenced, Did, d_end, d_load, d_store, d_push, d_fence}
+use Rattle.device.specs.Does.{Op, Did, d_end, d_load, d_store, d_push, d_fence}
 
 abbrev pub Any : {A : Type 0} → A → Type 0
 Any a = Unit {0}

@@ -1,6 +1,6 @@
 -- What a memory is told and answers, one operation at a time, and work that is done by such operations.
 -- Assumes nothing.
-use Rattle.std.specs.Prelude.{◌≡◌, ℕ, zero, suc, ◌+◌, ◌-◌}
+use Rattle.std.specs.Prelude.{ℕ, zero, suc, ◌+◌, ◌-◌}
 use Rattle.device.specs.Lines.{Work, yields, load, store, push, fence}
 
 -- one operation, with what a load gave

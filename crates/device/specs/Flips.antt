@@ -1,6 +1,6 @@
 -- Two copies and a flip: work that writes only lines that do not count, then one store that makes them count.
 -- Assumes nothing.
-use Rattle.std.specs.Prelude.{◌≡◌, ◌⊎◌, ℕ, ◌+◌, ◌<◌}
+use Rattle.std.specs.Prelude.{◌⊎◌, ℕ, ◌+◌, ◌<◌}
 use Rattle.device.specs.Lines.{Lines, Left, Work, yields, store, push, fence, Worked, Partly, Within}
 use Rattle.device.specs.Does.{bind}
 use Rattle.device.specs.Images.{Image, upd, All, None, At, Agree}

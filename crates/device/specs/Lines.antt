@@ -1,8 +1,8 @@
 -- Memory that lasts, in lines of eight words, behind a cache that may write a line back at any time.
 -- What code does with such memory, what may have reached it when the power fails, and when an engine built on it makes sense.
 -- Assumes nothing.
-use Rattle.std.specs.Prelude.{◌≡◌, ◌⊎◌, Bool, true, false, cond, ◌&&◌, ◌||◌, not, ℕ, zero, suc, ◌+◌, ◌*◌, ◌<◌, ◌≤◌, eqb, ltb, leb, T, length}
-use mathlib.Core.List.{List, [], ◌∷◌, ◌++◌, map, Memᴰ}
+use Rattle.std.specs.Prelude.{◌≡◌, cond, ℕ, zero, suc, ◌<◌, ◌≤◌, eqb, length}
+use mathlib.Core.List.{List, [], ◌∷◌, ◌++◌}
 
 -- One line, of eight words of 64 bits. lasts: what has surely reached the memory; since: the stores to it since then, oldest first;
 -- pushed: how many of these the code has told the cache to write back.

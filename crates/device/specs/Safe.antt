@@ -1,7 +1,7 @@
 -- What holds after work, and at each moment in which the power may fail in it.
 -- Assumes nothing.
-use Rattle.std.specs.Prelude.{◌≡◌, ◌⊎◌, ℕ, ◌<◌}
-use Rattle.device.specs.Lines.{Lines, fresh_lines, seen, stored, pushed_back, fenced, Left, Work, yields, load, store, push, fence, Worked, Partly, Within, Engine, Sense, Sensible, Modest}
+use Rattle.std.specs.Prelude.{◌⊎◌, ℕ, ◌<◌}
+use Rattle.device.specs.Lines.{Lines, fresh_lines, seen, stored, pushed_back, fenced, Left, Work, yields, load, store, push, fence, Worked, Partly, Within, Engine, Sense}
 use Rattle.device.specs.Does.{bind}
 
 -- Safe N Q R w m: the work w, from m on, stays within N lines; R holds at each moment, and Q of what it yields and leaves

@@ -1,6 +1,6 @@
 -- Memory that gives what was stored last: what is done on it is done on lines.
 -- Assumes nothing.
-use Rattle.std.specs.Prelude.{◌≡◌, Bool, true, false, ℕ}
+use Rattle.std.specs.Prelude.{◌≡◌, Bool, true, false}
 use Rattle.device.specs.Lines.{Lines, seen, stored, pushed_back, fenced, Work, Worked, Partly}
 use Rattle.device.specs.Does.{Op, Loaded, Stored, Pushed, Fenced, Did}
 

@@ -1,10 +1,10 @@
 -- The operations of the memory in a file are the given ones, as far as they are seen.
 -- Assumes nothing.
-use Rattle.std.proofs.Common.{◌≡◌, ℕ, ◌+◌, ◌*◌, ◌/◌, ◌<◌, ◌≤◌, Bool, true, false, cond, eqb, List, length, get_or, set, is_some, vec_items, vec_len, sym, refl, ap, ◌∙◌, subst, arith, length-set, get_or-set_other, get_or-set_same, eqb-true}
+use Rattle.std.proofs.Common.{◌≡◌, ℕ, ◌+◌, ◌*◌, ◌/◌, ◌<◌, ◌≤◌, Bool, true, false, eqb, List, length, get_or, set, is_some, vec_items, vec_len, sym, refl, ap, ◌∙◌, subst, arith, length-set, get_or-set_other, get_or-set_same, eqb-true}
 use borrow.Author.Tests.{eqb-false, both_ways}
-use Rattle.device.specs.Lines.{Lines, seen, stored, pushed_back, fenced}
+use Rattle.device.specs.Lines.{Lines, seen}
 use Rattle.device.specs.Does.{Op, Loaded, Stored, Pushed, Fenced}
-use Rattle.device.specs.Ties.{Follows, Gives, After}
+use Rattle.device.specs.Ties.{Gives, After}
 use Rattle.device.specs.Images.{Image, upd, At, None}
 use Rattle.device.proofs.Image.{upd_line, upd_same, upd_word, at_store, at_push, at_fence}
 use Rattle.file_memory.specs.declared.memory.FileMemory.{FileMemory}

@@ -1,6 +1,6 @@
 -- The memory in a file: what it holds, and what each of its operations does.
 -- Assumes nothing.
-use Rattle.std.specs.Prelude.{◌≡◌, ℕ, ◌+◌, ◌*◌, ◌/◌, ◌<◌, ◌≤◌, Bool, true, false, is_some, vec_items, vec_len, slice_index}
+use Rattle.std.specs.Prelude.{◌≡◌, ℕ, ◌+◌, ◌*◌, ◌/◌, ◌<◌, Bool, is_some, vec_items, vec_len, slice_index}
 use Rattle.device.specs.Lines.{Lines, seen}
 use Rattle.device.specs.Does.{Op}
 use Rattle.device.specs.Ties.{Follows}

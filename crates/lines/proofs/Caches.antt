@@ -1,15 +1,15 @@
 -- The operations of the simulated memory are the given ones, and its failure is a power failure.
 -- Assumes nothing.
-use Rattle.std.proofs.Common.{◌≡◌, ℕ, zero, suc, ◌+◌, ◌-◌, ◌*◌, ◌/◌, ◌%◌, ◌<◌, ◌≤◌, Bool, true, false, cond, eqb, ltb, ◌⊎◌, List, [], ◌∷◌, ◌++◌, length, get_or, set, replicate, vec_items, vec_len, sym, refl, ap, ◌∙◌, subst, inl, inr, arith, length-append, length-set, get_or-set_other, get_or-set_same, ltb-false, ltb-true, eq-eqb, ne_eqb, eqb-true}
+use Rattle.std.proofs.Common.{◌≡◌, ℕ, ◌+◌, ◌*◌, ◌/◌, ◌%◌, ◌<◌, ◌≤◌, Bool, true, false, cond, eqb, ltb, ◌⊎◌, List, [], ◌∷◌, ◌++◌, length, get_or, set, replicate, vec_items, vec_len, sym, refl, ap, ◌∙◌, subst, inl, inr, arith, length-append, length-set, get_or-set_other, get_or-set_same, ltb-false, ltb-true, eqb-true}
 use lib.ListN.{length-replicate, get_or-replicate, get_or-eq_default}
 use borrow.Author.Tests.{eqb-false, both_ways}
-use Rattle.device.specs.Lines.{Line, Lines, fresh_lines, applied, first_of, drop_of, seen, stored, pushed_back, fenced, Left}
+use Rattle.device.specs.Lines.{Line, Lines, fresh_lines, applied, first_of, drop_of, seen, stored, pushed_back, fenced}
 use Rattle.device.specs.Does.{Op, Loaded, Stored, Pushed, Fenced}
-use Rattle.device.proofs.Image.{Put, wrote, applied_snoc, applied_parts, first_of_all, drop_of_all}
+use Rattle.device.proofs.Image.{wrote, applied_snoc, applied_parts}
 use Rattle.lines.specs.declared.journal.Store.{Store}
 use Rattle.lines.specs.declared.cached.Cached.{Cached}
 use Rattle.lines.specs.Walks.{of_line, Settling, settling, settle, lost_sees, lost_counts}
-use Rattle.lines.specs.Caches.{Held, held_in, lines_in, Inside, Sound, Shows, Stands, CachedStep, Fails}
+use Rattle.lines.specs.Caches.{Held, held_in, lines_in, Sound, Shows, Stands, CachedStep, Fails}
 use Rattle.lines.proofs.Settles.{applied_at, set_cond, place_eqb, own_snoc, other_snoc, Sized, sized_settle, inside_more, inside_settle, Settled, settled, lost_sees_lem, lost_length, lost_counts_lem, lost_counts_length}
 
 -- ---- from what is held to the memory

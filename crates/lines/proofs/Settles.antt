@@ -1,12 +1,12 @@
 -- What the walks along the journal do to one line.
 -- Assumes nothing.
-use Rattle.std.proofs.Common.{◌≡◌, ℕ, zero, suc, ◌+◌, ◌-◌, ◌*◌, ◌/◌, ◌%◌, ◌<◌, ◌≤◌, Bool, true, false, cond, eqb, ltb, ◌⊎◌, List, [], ◌∷◌, ◌++◌, length, get_or, set, sym, refl, ap, ◌∙◌, subst, inl, inr, append_assoc, append-nil, arith, length-append, length-set, get_or-set_other, get_or-set_same, ltb-false, ltb-true, eq-eqb, ne_eqb, eqb-true}
+use Rattle.std.proofs.Common.{◌≡◌, ℕ, suc, ◌+◌, ◌-◌, ◌*◌, ◌/◌, ◌%◌, ◌<◌, Bool, true, false, cond, eqb, ltb, ◌⊎◌, List, [], ◌∷◌, ◌++◌, length, get_or, set, sym, refl, ap, ◌∙◌, subst, inl, inr, append_assoc, append-nil, arith, length-append, length-set, get_or-set_other, get_or-set_same, ltb-false, ltb-true, eq-eqb, ne_eqb, eqb-true}
 use lib.Seq.{set_out}
 use borrow.Author.Tests.{eqb-false}
 use Rattle.device.specs.Lines.{applied, first_of, drop_of}
 use Rattle.device.proofs.Image.{Put, wrote, first_of_nil, drop_of_nil}
 use Rattle.lines.specs.declared.journal.Store.{Store}
-use Rattle.lines.specs.Walks.{of_line, Settling, settling, lasting, staying, settle, lost_sees, lost_counts}
+use Rattle.lines.specs.Walks.{of_line, Settling, lasting, staying, settle, lost_sees, lost_counts}
 use Rattle.lines.specs.Caches.{Inside}
 
 -- ---- lists

@@ -1,6 +1,6 @@
 -- The simulated memory: what it holds, which lines it stands for, and what each of its operations does to these.
 -- Assumes nothing.
-use Rattle.std.specs.Prelude.{◌≡◌, ℕ, ◌+◌, ◌*◌, ◌/◌, ◌<◌, ◌≤◌, Bool, true, false, List, [], ◌∷◌, length, vec_items, vec_len, slice_index}
+use Rattle.std.specs.Prelude.{◌≡◌, ℕ, ◌+◌, ◌*◌, ◌/◌, ◌<◌, ◌≤◌, List, [], ◌∷◌, length, vec_items, vec_len, slice_index}
 use Rattle.device.specs.Lines.{Lines, applied, Left}
 use Rattle.device.specs.Does.{Op}
 use Rattle.device.specs.Ties.{Follows}

@@ -1,11 +1,11 @@
 -- A memory under a fuse gives what was stored last where the memory within does.
 -- Assumes nothing.
-use Rattle.std.specs.Prelude.{◌≡◌, ℕ, Bool, true, false, ◌||◌, ◌⊎◌, refl}
-use Rattle.std.proofs.Common.{sym, ap, subst, ◌∙◌, inl, inr}
+use Rattle.std.specs.Prelude.{◌≡◌, Bool, true, false, ◌||◌, ◌⊎◌, refl}
+use Rattle.std.proofs.Common.{sym, ap, subst, inl, inr}
 use Rattle.std.proofs.lemmas.Bool.{both_ways}
 use Rattle.device.specs.Lines.{Lines}
-use Rattle.device.specs.Does.{Op, Loaded, Stored, Pushed, Fenced}
-use Rattle.device.specs.Ties.{Follows, Coheres}
+use Rattle.device.specs.Does.{Op}
+use Rattle.device.specs.Ties.{Coheres}
 use Rattle.lines.specs.declared.fuse.Fuse.{Fuse}
 use Rattle.lines.specs.Fuses.{FuseStep, goes, cuts, fuse_stopped, fuse_stands}
 

@@ -1,7 +1,7 @@
 -- Runs of words in an image, and what loading and saving them does.
 -- Assumes nothing.
-use Rattle.std.specs.Prelude.{◌≡◌, ◌⊎◌, true, false, List, [], ◌∷◌, ℕ, zero, suc, ◌+◌, ◌*◌, ◌/◌, ◌%◌, ◌<◌, ◌≤◌, eqb, length}
-use Rattle.device.specs.Lines.{Lines, Work}
+use Rattle.std.specs.Prelude.{◌≡◌, ◌⊎◌, false, List, [], ◌∷◌, ℕ, zero, suc, ◌+◌, ◌*◌, ◌/◌, ◌%◌, ◌<◌, ◌≤◌, eqb, length}
+use Rattle.device.specs.Lines.{Lines}
 use Rattle.device.specs.Safe.{Safe}
 use Rattle.device.specs.Images.{Image, upd, All, None, At, Agree}
 use Rattle.device.specs.Flips.{Amid}

@@ -1,7 +1,7 @@
 -- Runs of words, as work.
 -- Assumes nothing.
-use Rattle.std.specs.Prelude.{List, [], ◌∷◌, ℕ, zero, suc, ◌+◌, ◌-◌, ◌/◌, ◌%◌}
-use Rattle.device.specs.Lines.{Work, yields, load, store, push, fence}
+use Rattle.std.specs.Prelude.{List, [], ◌∷◌, ℕ, zero, suc, ◌+◌, ◌/◌, ◌%◌}
+use Rattle.device.specs.Lines.{Work, yields, load, store, push}
 use Rattle.device.specs.Does.{bind, loop_from}
 
 -- n words, from word i of what starts at a line

@@ -11,10 +11,10 @@ use device::{Device, Marks};
 
 // Loads words from the line on, as many as `out` has.
 pub fn load_words<D: Device>(dev: &mut D, line: u64, out: &mut [u64])
-    requires fits { line + (length out.old + 7) / 8 ≤ size dev.old }
+    requires fits { line + (length out.old + 7) / 8 ≤ D.size dev.old }
     requires low { line < 2 ^ 62 }
-    ensures did { Did step (load_words line 0 (length out.old)) dev.old out.new dev.new }
-    ensures stays { size dev.new ≡ size dev.old }
+    ensures did { Did D.step (load_words line 0 (length out.old)) dev.old out.new dev.new }
+    ensures stays { D.size dev.new ≡ D.size dev.old }
 {
     for i in 0..out.len() {
         out[i] = dev.load(line + (i / 8) as u64, (i % 8) as u64);
@@ -23,10 +23,10 @@ pub fn load_words<D: Device>(dev: &mut D, line: u64, out: &mut [u64])
 
 // Stores the words from the line on.
 pub fn store_words<D: Device>(dev: &mut D, line: u64, words: &[u64])
-    requires fits { line + (length words.now + 7) / 8 ≤ size dev.old }
+    requires fits { line + (length words.now + 7) / 8 ≤ D.size dev.old }
     requires low { line < 2 ^ 62 }
-    ensures did { Did step (store_words line 0 words.now) dev.old tt dev.new }
-    ensures stays { size dev.new ≡ size dev.old }
+    ensures did { Did D.step (store_words line 0 words.now) dev.old tt dev.new }
+    ensures stays { D.size dev.new ≡ D.size dev.old }
 {
     for i in 0..words.len() {
         dev.store(line + (i / 8) as u64, (i % 8) as u64, words[i]);
@@ -35,10 +35,10 @@ pub fn store_words<D: Device>(dev: &mut D, line: u64, words: &[u64])
 
 // Pushes `count` lines, from the line on.
 pub fn push_lines<D: Device>(dev: &mut D, line: u64, count: u64)
-    requires fits { line + count ≤ size dev.old }
+    requires fits { line + count ≤ D.size dev.old }
     requires low { line + count < 2 ^ 63 }
-    ensures did { Did step (push_lines line count) dev.old tt dev.new }
-    ensures stays { size dev.new ≡ size dev.old }
+    ensures did { Did D.step (push_lines line count) dev.old tt dev.new }
+    ensures stays { D.size dev.new ≡ D.size dev.old }
 {
     for i in 0..count {
         dev.push(line + i);
@@ -47,11 +47,11 @@ pub fn push_lines<D: Device>(dev: &mut D, line: u64, count: u64)
 
 // Stores the words from the line on, and pushes `count` lines, which hold them all.
 pub fn save_words<D: Device>(dev: &mut D, line: u64, count: u64, words: &[u64])
-    requires fits { line + count ≤ size dev.old }
+    requires fits { line + count ≤ D.size dev.old }
     requires low { line + count < 2 ^ 62 }
     requires inside { length words.now ≤ 8 * count }
-    ensures did { Did step (save_words line count words.now) dev.old tt dev.new }
-    ensures stays { size dev.new ≡ size dev.old }
+    ensures did { Did D.step (save_words line count words.now) dev.old tt dev.new }
+    ensures stays { D.size dev.new ≡ D.size dev.old }
 {
     store_words(dev, line, words);
     push_lines(dev, line, count);
@@ -60,10 +60,10 @@ pub fn save_words<D: Device>(dev: &mut D, line: u64, count: u64, words: &[u64])
 // Makes all that was pushed last, then stores one word, and makes that last too. The first fence is what the flip rests on: without it
 // the root word could reach the memory before the words that it makes count.
 pub fn flip<D: Device>(dev: &mut D, line: u64, word: u64, value: u64)
-    requires fits { line < size dev.old }
+    requires fits { line < D.size dev.old }
     requires inside { word < 8 }
-    ensures did { Did step (commit_work line word value) dev.old tt dev.new }
-    ensures stays { size dev.new ≡ size dev.old }
+    ensures did { Did D.step (commit_work line word value) dev.old tt dev.new }
+    ensures stays { D.size dev.new ≡ D.size dev.old }
 {
     dev.fence(); // what the word makes count has reached the memory
     dev.store(line, word, value);

@@ -1,6 +1,6 @@
 use mathlib.Core.Path.{refl, ◌∙◌}
 use native.Mathlib.Omega.{arith}
-use Rattle.device.specs.Does.{Did, d_end, d_push}
+use Rattle.device.specs.Does.{d_end, d_push}
 use Rattle.device.proofs.Loops.{loop_none, loop_again, loop_all}
 use Rattle.words.specs.Works.{push_turn, push_lines}
 use Rattle.words.proofs.push_lines.Goals as goal

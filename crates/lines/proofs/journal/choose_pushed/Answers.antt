@@ -1,4 +1,4 @@
-use Rattle.std.proofs.Common.{◌≡◌, ◌≤◌, length, vec_items, ap, ◌∙◌, subst, length-set}
+use Rattle.std.proofs.Common.{◌≤◌, length, ap, ◌∙◌, subst, length-set}
 use Rattle.lines.proofs.Turns.{set_within}
 use Rattle.lines.proofs.journal.choose_pushed.Goals as goal
 

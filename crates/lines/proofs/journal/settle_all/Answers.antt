@@ -1,5 +1,5 @@
-use Rattle.std.proofs.Common.{◌≡◌, ◌+◌, ◌≤◌, length, take, drop, set, vec_items, vec_len, sym, ap, ◌∙◌, arith, length-set}
-use Rattle.lines.specs.Walks.{settling, settle}
+use Rattle.std.proofs.Common.{◌≡◌, ◌+◌, length, take, set, vec_items, vec_len, sym, ap, ◌∙◌, arith, length-set}
+use Rattle.lines.specs.Walks.{settling}
 use Rattle.lines.proofs.Turns.{settle_gone, settle_stays, settle_end, settle_moved}
 use Rattle.lines.proofs.journal.settle_all.Goals as goal
 use Rattle.lines.proofs.journal.settle_all.Goals.{then-not-settle_one, else-not-settle_one}

@@ -1,5 +1,5 @@
-use Rattle.std.proofs.Common.{◌≡◌, ◌≤◌, [], length, take, drop, vec_items, vec_len}
-use Rattle.lines.specs.Walks.{Settling, settle, settling}
+use Rattle.std.proofs.Common.{◌≡◌, ◌≤◌, [], take, drop, vec_items, vec_len}
+use Rattle.lines.specs.Walks.{settle, settling}
 use Rattle.lines.proofs.journal.settle_all.Given as goal
 
 abbrev pub invariant-loop-i : goal.invariant-loop-i

@@ -1,4 +1,4 @@
-use Rattle.std.proofs.Common.{◌≡◌, ◌+◌, ◌*◌, true, false, cond, not, [], ◌∷◌, ◌++◌, get_or, set, is_ok, vec_items, refl, ap, ◌∙◌, arith}
+use Rattle.std.proofs.Common.{◌≡◌, ◌+◌, ◌*◌, true, cond, not, [], ◌∷◌, ◌++◌, get_or, set, is_ok, vec_items, refl, ap, ◌∙◌, arith}
 use Rattle.lines.specs.declared.journal.Store.{Store}
 use Rattle.lines.proofs.Caches.{store_step}
 use Rattle.lines.proofs.cached.CachedDevice.store.Goals as goal
