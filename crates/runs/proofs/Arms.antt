@@ -1,15 +1,14 @@
 -- What each statement does on the words, by what its expression is worth.
-use Rattle.std.proofs.Common.{◌≡◌, ℕ, zero, suc, ◌+◌, ◌-◌, ◌<◌, ◌≤◌, Bool, true, false, cond, ◌&&◌, eqb, ltb, leb, ◌⊎◌, List, [], ◌∷◌, ◌++◌, length, get_or, take, drop, set, Some, None, Ok, Err, Option, Result, sym, refl, ap, ◌∙◌, subst, inl, inr, append_assoc, arith, take-suc}
+use Rattle.std.proofs.Common.{◌≡◌, ℕ, zero, suc, ◌+◌, ◌-◌, ◌<◌, ◌≤◌, true, false, cond, ◌&&◌, eqb, ltb, leb, ◌⊎◌, List, [], ◌∷◌, ◌++◌, length, get_or, take, drop, set, Some, None, Option, Result, sym, refl, ap, ◌∙◌, subst, inl, inr, append_assoc, arith, take-suc}
 use Rattle.std.proofs.lemmas.Bool.{lt-ltb, le-ltb, eq-eqb, ne_eqb, le-leb, lt-leb, cond-true, cond-false}
 use Rattle.runs.specs.declared.unit.Statement.{Statement}
-use Rattle.runs.specs.declared.unit.Statement.TheVariants.{Set, Do, Sleep, Hear, If, While, Guard, Go, Return, Fail, End}
-use Rattle.runs.specs.declared.step.Phase.{Phase}
-use Rattle.runs.specs.declared.step.Phase.TheVariants.{Busy, Tasked, Asleep, Listens, Ended, Failed}
+use Rattle.runs.specs.declared.unit.Statement.TheVariants.{Set, Do, Sleep, Hear, If, Return}
+use Rattle.runs.specs.declared.step.Phase.TheVariants.{Asleep, Listens, Ended, Failed}
 use Rattle.runs.specs.declared.step.Place.{Place}
 use Rattle.plans.proofs.Evals.{too_short, no_run, length_tops}
 use Rattle.plans.specs.Plan.{capped}
-use Rattle.plans.specs.Eval.{Out as Run, Bad, Stop, tops, run_e, One, no_value, one_value, one_of}
-use Rattle.runs.specs.Steps.{Out, Lost, Went, gone_to, ended_as, waits_at, asked_into, fails_to, with_value, worth_at, backs, with_all, does_w, busy, step_w, Placed, Stepped}
+use Rattle.plans.specs.Eval.{Out as Run, Bad, Stop, tops, run_e, One, no_value, one_value}
+use Rattle.runs.specs.Steps.{Out, Lost, Went, gone_to, ended_as, waits_at, asked_into, fails_to, with_value, worth_at, backs, with_all, does_w, busy, step_w, Stepped}
 use Rattle.runs.specs.Machine.{spent}
 use Rattle.runs.specs.Units.{statement_at, deep_at}
 use Rattle.runs.specs.declared.step.Moved.{Moved}

@@ -3,7 +3,7 @@ use Rattle.std.proofs.Common.{◌≡◌, ℕ, zero, suc, ◌+◌, ◌-◌, ◌<�
 use Rattle.std.proofs.lemmas.Bool.{both_ways}
 use Rattle.runs.specs.declared.step.Phase.{Phase}
 use Rattle.runs.specs.declared.step.Phase.TheVariants.{Busy, Tasked, Asleep, Listens, Ended, Failed}
-use Rattle.plans.specs.Plan.{Word, Wish, Flow, Moved, take_word, is_busy, none, Phase as MeantPhase, Busy as busyP, Tasked as taskedP, Asleep as asleepP, Listens as listensP, Ended as endedP, Failed as failedP, still, further, moves}
+use Rattle.plans.specs.Plan.{Word, Wish, Flow, Moved, take_word, is_busy, none, Phase as MeantPhase, Busy as busy_p, Tasked as tasked_p, Asleep as asleep_p, Listens as listens_p, Ended as ended_p, Failed as failed_p, still, further, moves}
 use Rattle.runs.specs.declared.step.Place.{Place}
 use Rattle.runs.specs.Machine.{Act, SetOp, DoOp, SleepOp, HearOp, IfOp, WhileOp, EnterOp, GoOp, ReturnOp, FailOp, EndOp, Wrong, Code, FlatFlow, FlatMoved, fends, fstill, flistens, fdoes, spent, ffurther, fmoves, Is, Follows}
 use Rattle.runs.specs.Decode.{code_in}
@@ -87,7 +87,7 @@ quiet_none Wrong = tt
 
 deaf_further : (code : Code) (now : ℕ) (x : FlatFlow) → Quiet (code x.here).act x.box → dfurther code now (fstill x) ≡ ffurther code now (fstill x)
 unfolding none
-deaf_further code now x q = ap (λ (m : FlatMoved). cond (is_busy x.phase && true) (cond (spent (code x.here).deep x.steps) (fstill (fends failedP x)) m) (fstill x)) (quiet_alike now (code x.here).act x q)
+deaf_further code now x q = ap (λ (m : FlatMoved). cond (is_busy x.phase && true) (cond (spent (code x.here).deep x.steps) (fstill (fends failed_p x)) m) (fstill x)) (quiet_alike now (code x.here).act x q)
 
 -- a flow that wishes for something makes no move
 wished_stays : (code : Code) (n now : ℕ) (f : FlatFlow) (w : Wish) (ws : List Wish) → fmoves code n now (record { flow = f; wish = w ∷ ws }) ≡ record { flow = f; wish = w ∷ ws }
@@ -95,18 +95,18 @@ unfolding fmoves none
 wished_stays code zero now f w ws = refl
 wished_stays code (suc n) now f w ws = ap (λ (m : FlatMoved). fmoves code n now m) (go (is_busy f.phase)) ∙ wished_stays code n now f w ws
   where
-    go : (b : Bool) → cond (b && false) (cond (spent (code f.here).deep f.steps) (fstill (fends failedP f)) (fdoes now (code f.here).act f)) (record { flow = f; wish = w ∷ ws }) ≡ record { flow = f; wish = w ∷ ws }
+    go : (b : Bool) → cond (b && false) (cond (spent (code f.here).deep f.steps) (fstill (fends failed_p f)) (fdoes now (code f.here).act f)) (record { flow = f; wish = w ∷ ws }) ≡ record { flow = f; wish = w ∷ ws }
     go true = refl
     go false = refl
 
 -- a move is the machine's, or it has come to wait for a word
 heeds : MeantPhase → Bool
-heeds busyP = false
-heeds (taskedP s) = false
-heeds (asleepP u) = false
-heeds (listensP v w n u) = true
-heeds (endedP x) = false
-heeds failedP = false
+heeds busy_p = false
+heeds (tasked_p s) = false
+heeds (asleep_p u) = false
+heeds (listens_p v w n u) = true
+heeds (ended_p x) = false
+heeds failed_p = false
 
 deaf_or : (now : ℕ) (a : Act) (x : FlatFlow) → (deaf now a x ≡ fdoes now a x) ⊎ (heeds (deaf now a x).flow.phase ≡ true)
 unfolding deaf flistens heeds
@@ -130,7 +130,7 @@ further_or code now x = go (is_busy x.phase && true) (spent (code x.here).deep x
     a : Act
     a = (code x.here).act
 
-    go : (b s : Bool) → (cond b (cond s (fstill (fends failedP x)) (deaf now a x)) (fstill x) ≡ cond b (cond s (fstill (fends failedP x)) (fdoes now a x)) (fstill x)) ⊎ (heeds (cond b (cond s (fstill (fends failedP x)) (deaf now a x)) (fstill x)).flow.phase ≡ true)
+    go : (b s : Bool) → (cond b (cond s (fstill (fends failed_p x)) (deaf now a x)) (fstill x) ≡ cond b (cond s (fstill (fends failed_p x)) (fdoes now a x)) (fstill x)) ⊎ (heeds (cond b (cond s (fstill (fends failed_p x)) (deaf now a x)) (fstill x)).flow.phase ≡ true)
     go true true = inl refl
     go true false = deaf_or now a x
     go false s = inl refl

@@ -1,8 +1,8 @@
 -- The machine on the flat form does what the meaning does, move for move.
-use Rattle.std.proofs.Common.{◌≡◌, ℕ, zero, suc, ◌+◌, ◌<◌, ◌≤◌, Bool, true, false, cond, ◌&&◌, ◌||◌, eqb, ltb, leb, List, [], ◌∷◌, ◌++◌, length, sym, refl, ap, ◌∙◌, subst, arith}
-use Rattle.plans.specs.Plan.{Name, Expr, Stmt, Set, Do, Sleep, Hear, If, While, Guard, Return, FailNow, Block, done, then, Frame, Rest, Catch, Phase, Busy, Tasked, Asleep, Listens, Ended, Failed, Word, Flow, Wish, Moved, at, goes_on, ends, waits, still, broken, take_word, without, heard, listens, capped, value, values, does, rest_of, step, is_busy, none, further, moves}
-use Rattle.plans.specs.Flat.{Way, Nowhere, To, under}
-use Rattle.runs.specs.Machine.{Act, SetOp, DoOp, SleepOp, HearOp, IfOp, WhileOp, EnterOp, GoOp, ReturnOp, FailOp, EndOp, Wrong, Op, op, Code, FlatFlow, FlatMoved, fgoes, fends, fwaits, fstill, fbroken, fheard, flistens, fdoes, spent, ffurther, fmoves, after_do, way_of, is_do, FlatStmt, Flat, FlatRest, Stack, Somewhere, Control, as_tree, Is, Follows}
+use Rattle.std.proofs.Common.{◌≡◌, ℕ, zero, suc, Bool, true, false, cond, ◌&&◌, eqb, List, [], ◌∷◌, length, sym, refl, ap, ◌∙◌, subst, arith}
+use Rattle.plans.specs.Plan.{Name, Stmt, Set, Do, Sleep, Hear, If, While, Guard, Return, FailNow, Block, done, then, Frame, Rest, Catch, Phase, Busy, Tasked, Asleep, Listens, Ended, Failed, Word, Wish, Moved, goes_on, ends, still, broken, take_word, listens, value, does, rest_of, step, is_busy, none, further, moves}
+use Rattle.plans.specs.Flat.{Way, To, under}
+use Rattle.runs.specs.Machine.{Act, Wrong, Op, op, Code, FlatFlow, FlatMoved, fgoes, fends, fstill, fbroken, flistens, fdoes, spent, ffurther, fmoves, after_do, way_of, is_do, FlatStmt, Flat, FlatRest, Stack, Somewhere, Control, as_tree, Follows}
 
 stmt_deep_lem : (code : Code) (a : ℕ) (s : Stmt) (next : ℕ) (way : Way) (u d : ℕ) → FlatStmt code a s next way u d → (code a).deep ≡ d
 unfolding FlatStmt

@@ -1,18 +1,16 @@
 -- The words of a plan's flat form stand for the plan.
-use Rattle.std.proofs.Common.{◌≡◌, ℕ, zero, suc, ◌+◌, ◌-◌, ◌*◌, ◌/◌, ◌%◌, ◌<◌, ◌≤◌, Bool, true, false, cond, not, ◌&&◌, eqb, ltb, leb, List, [], ◌∷◌, ◌++◌, length, get_or, take, drop, replicate, Some, None, Option, sym, refl, ap, ◌∙◌, subst, append_assoc, arith, length-append}
-use Rattle.std.proofs.lemmas.Bool.{lt-ltb, le-leb, ne_eqb, ltb-true, leb-true, and_parts, cond-true}
+use Rattle.std.proofs.Common.{◌≡◌, ℕ, zero, suc, ◌+◌, ◌-◌, ◌*◌, ◌/◌, ◌%◌, ◌<◌, ◌≤◌, true, not, ◌&&◌, eqb, ltb, leb, List, [], ◌∷◌, ◌++◌, length, get_or, take, drop, replicate, sym, refl, ap, ◌∙◌, subst, append_assoc, arith}
+use Rattle.std.proofs.lemmas.Bool.{lt-ltb, le-leb, ne_eqb, leb-true, and_parts, cond-true}
 use Rattle.plans.specs.declared.eval.Join.{Join}
 use Rattle.plans.specs.declared.eval.Join.TheVariants.{Sum, Difference, Product, Under, Equal}
-use Rattle.plans.specs.declared.eval.Op.{Op as ExprOp}
-use Rattle.plans.specs.declared.eval.Op.TheVariants.{Push, Load, Pair, Negate, Halt}
+use Rattle.plans.specs.declared.eval.Op.TheVariants.{Pair, Halt}
 use Rattle.plans.specs.Eval.{op_of}
-use Rattle.plans.specs.Plan.{Name, Expr, Lit, Var, Plus, Minus, Times, Less, Same, Not, Stmt, Set, Do, Sleep, Hear, If, While, Guard, Return, FailNow, Block, done, then, every, name_ok, word_ok, expr_ok, expr_size, sizes, stmt_size, size_of, stmt_ok, block_ok, Flow, Phase, Busy, Frame, Rest}
+use Rattle.plans.specs.Plan.{Name, Expr, Lit, Var, Plus, Minus, Times, Less, Same, Not, Stmt, Set, Do, Sleep, Hear, If, While, Guard, Return, FailNow, Block, done, then, every, name_ok, word_ok, expr_ok, expr_size, sizes, stmt_size, size_of, stmt_ok, block_ok, Phase, Frame, Rest}
 use Rattle.plans.specs.Flat.{Way, Nowhere, To, way_word, entry, code_of, codes_of, padded, under, go_on, lay_stmt, lay, laid}
-use Rattle.plans.proofs.Drafts.{code_length, codes_length, padded_length, lay_stmt_length, lay_length, Head, head_of, rest_of}
-use Rattle.runs.specs.declared.unit.Statement.{Statement}
-use Rattle.runs.specs.Machine.{Act, SetOp, DoOp, SleepOp, HearOp, IfOp, WhileOp, EnterOp, GoOp, ReturnOp, FailOp, EndOp, Wrong, Op, op, Code, FlatFlow, FlatStmt, Flat, FlatRest, Stack, Somewhere, Control, Is}
-use Rattle.runs.specs.Units.{statement_of, statement_at, deep_at}
-use Rattle.runs.specs.Decode.{Grown, withered, grown, Trees, no_trees, trees, join_tree, leaf, paired_t, negated_t, acts_t, onto_t, or_grown, grow, trees_at, one_tree, back, all_trees, way_from, letters, act_of, code_in, flat_at, BeginsAlike}
+use Rattle.plans.proofs.Drafts.{code_length, padded_length, lay_stmt_length, lay_length, Head, head_of, rest_of}
+use Rattle.runs.specs.Machine.{Act, SetOp, DoOp, SleepOp, HearOp, IfOp, WhileOp, ReturnOp, FailOp, EndOp, Wrong, op, FlatStmt, Flat, FlatRest, Stack, Control}
+use Rattle.runs.specs.Units.{statement_of, statement_at}
+use Rattle.runs.specs.Decode.{Grown, grown, join_tree, leaf, paired_t, negated_t, acts_t, onto_t, or_grown, grow, trees_at, one_tree, back, all_trees, way_from, letters, act_of, code_in, BeginsAlike}
 
 -- entries --------------------------------------------------------------------
 

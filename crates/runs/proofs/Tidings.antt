@@ -1,20 +1,19 @@
 -- What is told to a flow that waits, on a plan's words.
-use Rattle.std.proofs.Common.{◌≡◌, ℕ, zero, suc, ◌+◌, ◌<◌, ◌≤◌, Bool, true, false, cond, ◌&&◌, eqb, ltb, leb, List, [], ◌∷◌, length, get_or, drop, set, Some, None, Ok, Err, Option, Result, sym, refl, ap, ◌∙◌, subst, arith, length-set}
+use Rattle.std.proofs.Common.{◌≡◌, ℕ, zero, suc, ◌+◌, ◌<◌, Bool, true, false, cond, ◌&&◌, ltb, leb, List, [], ◌∷◌, length, get_or, drop, set, Some, None, Ok, Err, Option, Result, sym, refl, ap, ◌∙◌, subst, arith, length-set}
 use Rattle.std.proofs.lemmas.Bool.{both_ways}
 use Rattle.plans.specs.declared.eval.Damaged.{Damaged}
-use Rattle.plans.specs.Plan.{Expr, Flow, Busy as busyP, Tasked as taskedP, at, goes_on, broken, heard}
-use Rattle.plans.specs.Flat.{Way, Nowhere, To}
+use Rattle.plans.specs.Plan.{Expr, Flow, Busy as busy_p, Tasked as tasked_p, at, goes_on, broken, heard}
+use Rattle.plans.specs.Flat.{Way}
 use Rattle.plans.specs.Eval.{look}
 use Rattle.runs.specs.declared.unit.Statement.{Statement}
 use Rattle.runs.specs.declared.unit.Statement.TheVariants.{Set, Do, Sleep, Hear, If, While, Guard, Go, Return, Fail, End}
-use Rattle.runs.specs.declared.step.Phase.{Phase}
-use Rattle.runs.specs.declared.step.Phase.TheVariants.{Busy, Tasked, Failed}
+use Rattle.runs.specs.declared.step.Phase.TheVariants.{Tasked}
 use Rattle.runs.specs.declared.step.Place.{Place}
 use Rattle.runs.specs.Alike.{is_calm}
-use Rattle.runs.specs.Machine.{Act, SetOp, DoOp, SleepOp, HearOp, IfOp, WhileOp, ReturnOp, Wrong, FlatFlow, fgoes, fends, fbroken, fheard, is_do, after_do, way_of, Is}
+use Rattle.runs.specs.Machine.{Act, SetOp, DoOp, SleepOp, HearOp, IfOp, WhileOp, ReturnOp, Wrong, FlatFlow, fgoes, fbroken, fheard, is_do, after_do, way_of, Is}
 use Rattle.runs.specs.Units.{statement_at}
 use Rattle.runs.specs.Decode.{Grown, withered, grown, trees_at, one_tree, back, all_trees, way_from, letters, act_of, code_in}
-use Rattle.runs.specs.Steps.{Out, Lost, Went, gone_to, ended_as, fails_to, Placed}
+use Rattle.runs.specs.Steps.{Out, Lost, Went, gone_to, fails_to, Placed}
 use Rattle.runs.specs.Carried.{phase_in, flow_in}
 use Rattle.runs.specs.Events.{task_in, with_task, by_task, NowIs}
 use Rattle.runs.specs.declared.event.Task.{Task as Found}
@@ -76,7 +75,7 @@ pub wakes_in : (p r : Place) → r ≡ gone_to p.here p → (room : ℕ) (ws vs 
 unfolding phase_in
 wakes_in p r e room ws vs x y h k = subst (λ (q : Place). Is (code_in room ws) (flow_in ws q vs y) (goes_on x.frames x.vars x)) (sym e) (wakes_alike (code_in room ws) (flow_in ws p vs y) x h k)
 
-tasked_in : (ws : List ℕ) (p : Place) (k : ℕ) → p.phase ≡ Tasked k → phase_in ws p.phase ≡ taskedP k
+tasked_in : (ws : List ℕ) (p : Place) (k : ℕ) → p.phase ≡ Tasked k → phase_in ws p.phase ≡ tasked_p k
 unfolding phase_in
 tasked_in ws p k e = ap (phase_in ws) e
 
@@ -126,5 +125,5 @@ unfolding phase_in
 heard_in p r v w n came vs all low lower e room ws x y h k =
     let l : length (set vs v n) ≡ 64 = simp length-set all in
     let f : at w came (at v n (look vs)) ≡ look (set (set vs v n) w came) = ap (λ (g : ℕ → ℕ). at w came g) (look_set vs v n (omega arith)) ∙ look_set (set vs v n) w came (omega arith) in
-    let g : fheard v w n came y.box p.here (flow_in ws p vs y) ≡ flow_in ws r (set (set vs v n) w came) y = (λ i. record { id = y.id; key = y.key; phase = busyP; here = p.here; vars = f i; steps = p.steps; into = p.into; box = y.box; size = y.size }) ∙ ap (λ (q : Place). flow_in ws q (set (set vs v n) w came) y) (sym e) in
+    let g : fheard v w n came y.box p.here (flow_in ws p vs y) ≡ flow_in ws r (set (set vs v n) w came) y = (λ i. record { id = y.id; key = y.key; phase = busy_p; here = p.here; vars = f i; steps = p.steps; into = p.into; box = y.box; size = y.size }) ∙ ap (λ (q : Place). flow_in ws q (set (set vs v n) w came) y) (sym e) in
     subst (λ (z : FlatFlow). Is (code_in room ws) z (heard v w n came x.box x.frames x)) g (heard_alike (code_in room ws) (flow_in ws p vs y) x v w n came h k)

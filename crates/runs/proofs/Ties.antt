@@ -1,22 +1,22 @@
 -- A move on the words is the machine's move.
-use Rattle.std.proofs.Common.{◌≡◌, ℕ, zero, suc, ◌+◌, ◌-◌, ◌*◌, ◌%◌, ◌^◌, ◌<◌, ◌≤◌, Bool, true, false, cond, ◌&&◌, eqb, ltb, leb, ◌⊎◌, List, [], ◌∷◌, length, get_or, drop, set, Some, None, Option, sym, refl, ap, ◌∙◌, subst, inl, inr, mod-eq_of_lt, arith, length-set, get_or-set_other, get_or-set_same}
+use Rattle.std.proofs.Common.{◌≡◌, ℕ, zero, suc, ◌+◌, ◌-◌, ◌%◌, ◌<◌, Bool, true, false, cond, ◌&&◌, eqb, ltb, leb, ◌⊎◌, List, [], ◌∷◌, length, get_or, drop, set, Some, None, Option, sym, refl, ap, ◌∙◌, subst, inl, inr, mod-eq_of_lt, arith, length-set, get_or-set_other, get_or-set_same}
 use Rattle.std.proofs.lemmas.Bool.{ltb-true, eqb-true, eqb-false}
 use Rattle.plans.specs.declared.eval.Join.{Join}
 use Rattle.plans.specs.declared.eval.Join.TheVariants.{Sum, Difference, Product, Under, Equal}
 use Rattle.plans.specs.declared.eval.Op.{Op as ExprOp}
 use Rattle.plans.specs.declared.eval.Op.TheVariants.{Push, Load, Pair, Negate, Halt}
-use Rattle.plans.specs.Plan.{Name, Expr, Lit, Var, Word, Wish, Busy as busyP, Failed as failedP, Ended as endedP, take_word, value, values, less_by, top, at, capped, is_busy, none}
-use Rattle.plans.specs.Eval.{op_of, join_of, Out as Run, Bad, Stop, Stack as Values, none as noValues, some as someValues, pushed, loaded, paired, negated, onto, acts, or_stop, run_e, One, no_value, one_value, one_of, look}
+use Rattle.plans.specs.Plan.{Expr, Lit, Var, Word, Failed as failed_p, value, values, less_by, top, at, capped, is_busy, none}
+use Rattle.plans.specs.Eval.{op_of, join_of, Out as Run, Stop, Stack as Values, some as some_values, pushed, loaded, paired, negated, onto, acts, or_stop, run_e, one_of, look}
 use Rattle.runs.specs.declared.unit.Statement.{Statement}
 use Rattle.runs.specs.declared.unit.Statement.TheVariants.{Set, Do, Sleep, Hear, If, While, Guard, Go, Return, Fail, End}
 use Rattle.runs.specs.declared.step.Phase.{Phase}
 use Rattle.runs.specs.declared.step.Phase.TheVariants.{Busy, Tasked, Asleep, Listens, Ended, Failed}
 use Rattle.runs.specs.declared.step.Place.{Place}
-use Rattle.runs.specs.Machine.{Act, SetOp, DoOp, SleepOp, HearOp, IfOp, WhileOp, EnterOp, GoOp, ReturnOp, FailOp, EndOp, Wrong, FlatFlow, FlatMoved, fgoes, fends, fstill, fbroken, flistens, fdoes, spent}
+use Rattle.runs.specs.Machine.{Act, SetOp, DoOp, SleepOp, HearOp, IfOp, WhileOp, EnterOp, GoOp, ReturnOp, FailOp, EndOp, Wrong, FlatFlow, fgoes, fends, fstill, fbroken, flistens, fdoes, spent}
 use Rattle.runs.specs.Units.{statement_at, deep_at}
-use Rattle.runs.specs.Decode.{Grown, withered, grown, Trees, no_trees, trees, join_tree, leaf, paired_t, negated_t, acts_t, onto_t, or_grown, grow, trees_at, one_tree, back, all_trees, way_from, letters, act_of, code_in}
-use Rattle.runs.specs.Steps.{Out, Lost, Went, gone_to, ended_as, waits_at, asked_into, fails_to, with_value, worth_at, backs, with_all, does_w, busy, step_w}
-use Rattle.runs.specs.Carried.{phase_in, flow_in, deaf, dfurther, Quiet, QuietAlike, HearsAtOnce, Tells, StepsAlike}
+use Rattle.runs.specs.Decode.{Grown, withered, grown, no_trees, trees, join_tree, leaf, paired_t, negated_t, acts_t, onto_t, or_grown, grow, trees_at, one_tree, back, all_trees, way_from, letters, act_of}
+use Rattle.runs.specs.Steps.{Out, Lost, Went, gone_to, ended_as, waits_at, asked_into, fails_to, with_value, backs, with_all, does_w, busy, step_w}
+use Rattle.runs.specs.Carried.{phase_in, flow_in, deaf, Quiet, QuietAlike, HearsAtOnce, Tells, StepsAlike}
 
 -- values and trees -------------------------------------------------------------
 
@@ -48,7 +48,7 @@ join_is Under a b vs = refl
 join_is Equal a b vs = refl
 
 module _ (room : ℕ) (vs : List ℕ) (all : length vs ≡ 64) where
-  leaf_agrees : (b c : Bool) (e : Expr) (es : List Expr) (f : List Expr → Grown) (g : List ℕ → Run) (st : Values) → (b ≡ true → c ≡ true → st ≡ someValues (value e (look vs) ∷ vals vs es)) → ((ts : List Expr) → Agrees vs (f ts) (g (vals vs ts))) → Agrees vs (onto_t (cond (b && c) (trees (e ∷ es)) no_trees) f) (onto st g)
+  leaf_agrees : (b c : Bool) (e : Expr) (es : List Expr) (f : List Expr → Grown) (g : List ℕ → Run) (st : Values) → (b ≡ true → c ≡ true → st ≡ some_values (value e (look vs) ∷ vals vs es)) → ((ts : List Expr) → Agrees vs (f ts) (g (vals vs ts))) → Agrees vs (onto_t (cond (b && c) (trees (e ∷ es)) no_trees) f) (onto st g)
   unfolding Agrees onto_t onto vals
   leaf_agrees true true e es f g st h k = subst (λ (q : Values). Agrees vs (f (e ∷ es)) (onto q g)) (sym (h refl refl)) (k (e ∷ es))
   leaf_agrees true false e es f g st h k = tt
@@ -67,7 +67,7 @@ module _ (room : ℕ) (vs : List ℕ) (all : length vs ≡ 64) where
 
   op_agrees : (o : ExprOp) (x pc : ℕ) (es : List Expr) (f : List Expr → Grown) (g : List ℕ → Run) → ((ts : List Expr) → Agrees vs (f ts) (g (vals vs ts))) → Agrees vs (or_grown o (grown es pc) (onto_t (acts_t room o x es) f)) (or_stop o (Stop (vals vs es) pc) (onto (acts room vs o x (vals vs es)) g))
   unfolding or_grown or_stop acts_t acts leaf pushed loaded value Agrees
-  op_agrees Push x pc es f g k = leaf_agrees (ltb x 18446744073709551616) (ltb (length es) room) (Lit x) es f g _ (λ p q. (rw (vals_length vs es, q) (ap (λ (n : ℕ). someValues (n ∷ vals vs es)) (sym (mod-eq_of_lt (ltb-true x top p)))))) k
+  op_agrees Push x pc es f g k = leaf_agrees (ltb x 18446744073709551616) (ltb (length es) room) (Lit x) es f g _ (λ p q. (rw (vals_length vs es, q) (ap (λ (n : ℕ). some_values (n ∷ vals vs es)) (sym (mod-eq_of_lt (ltb-true x top p)))))) k
   op_agrees Load x pc es f g k = leaf_agrees (ltb x 64) (ltb (length es) room) (Var x) es f g _ (λ p q. (rw (all, p, vals_length vs es, q) refl)) k
   op_agrees (Pair j) x pc es f g k = pair_agrees j es f g k
   op_agrees Negate x pc es f g k = not_agrees es f g k
@@ -162,11 +162,11 @@ steps_alike room ws now p vs y all = go (is_busy (phase_in ws p.phase) && true) 
     act : Act
     act = act_of room ws (statement_at ws p.here)
 
-    last : (s : Bool) → (act ≡ Wrong) ⊎ Tells ws y (cond s (Went (ended_as Failed p) vs []) (does_w room ws now (statement_at ws p.here) p vs)) (cond s (fstill (fends failedP x)) (deaf now act x))
+    last : (s : Bool) → (act ≡ Wrong) ⊎ Tells ws y (cond s (Went (ended_as Failed p) vs []) (does_w room ws now (statement_at ws p.here) p vs)) (cond s (fstill (fends failed_p x)) (deaf now act x))
     last true = inr (refl, all)
     last false = does_tie room ws now (statement_at ws p.here) p vs y all
 
-    go : (a b : Bool) → a ≡ b → (act ≡ Wrong) ⊎ Tells ws y (cond b (cond (spent (deep_at ws p.here) p.steps) (Went (ended_as Failed p) vs []) (does_w room ws now (statement_at ws p.here) p vs)) (Went p vs [])) (cond a (cond (spent (deep_at ws p.here) p.steps) (fstill (fends failedP x)) (deaf now act x)) (fstill x))
+    go : (a b : Bool) → a ≡ b → (act ≡ Wrong) ⊎ Tells ws y (cond b (cond (spent (deep_at ws p.here) p.steps) (Went (ended_as Failed p) vs []) (does_w room ws now (statement_at ws p.here) p vs)) (Went p vs [])) (cond a (cond (spent (deep_at ws p.here) p.steps) (fstill (fends failed_p x)) (deaf now act x)) (fstill x))
     go true true e = last (spent (deep_at ws p.here) p.steps)
     go false false e = inr (refl, all)
     go true false e = let z : ◌≡◌ {A = ℕ} 0 1 = cc in absurd (omega arith)

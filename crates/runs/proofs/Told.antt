@@ -1,8 +1,8 @@
 -- What is told to a flow keeps it alike.
-use Rattle.std.proofs.Common.{◌≡◌, ℕ, zero, suc, ◌+◌, ◌<◌, ◌≤◌, Bool, true, false, List, [], ◌∷◌, ◌++◌, sym, refl, ap, ◌∙◌, subst, arith}
-use Rattle.plans.specs.Plan.{Name, Frame, Rest, Phase, Busy, Tasked, Asleep, Listens, Ended, Failed, Word, Flow, Moved, at, goes_on, ends, still, broken, heard, moves}
+use Rattle.std.proofs.Common.{◌≡◌, ℕ, zero, suc, ◌+◌, true, List, sym, refl, ap, ◌∙◌, subst, arith}
+use Rattle.plans.specs.Plan.{Frame, Phase, Busy, Tasked, Asleep, Listens, Ended, Failed, Flow, at, goes_on, ends, still, broken, heard}
 use Rattle.plans.specs.Flat.{Way}
-use Rattle.runs.specs.Machine.{Code, FlatFlow, FlatMoved, fgoes, fends, fstill, fbroken, fheard, fmoves, ffurther, after_do, way_of, is_do, Stack, Somewhere, Control, as_tree, Is, Follows}
+use Rattle.runs.specs.Machine.{Code, FlatFlow, fgoes, fends, fstill, fbroken, fheard, fmoves, ffurther, after_do, way_of, is_do, Stack, Control, as_tree, Is}
 use Rattle.runs.specs.Alike.{MovesAlike, BrokenAlike, ResultAlike, is_calm, WakesAlike, HeardAlike, EndsAlike, fboxed, boxed, BoxedAlike, CutsAlike, NeverWrong}
 use Rattle.runs.proofs.Moves.{broken_follows, moves_follows, stack_place, stack_right}
 

@@ -1,9 +1,6 @@
 -- Whole runs on a plan's words.
-use Rattle.std.proofs.Common.{◌≡◌, ℕ, ◌<◌, ◌≤◌, List, length, Some, None, Option, sym, refl, ap, ◌∙◌, subst, arith}
+use Rattle.std.proofs.Common.{◌<◌, ◌≤◌, length, sym, ap, arith}
 use native.Mathlib.Decide.{dec_lt}
-use Rattle.runs.specs.declared.unit.Statement.{Statement}
-use Rattle.runs.specs.Machine.{Wrong}
-use Rattle.runs.specs.Units.{statement_at}
 use Rattle.plans.specs.Flat.{laid}
 use Rattle.runs.specs.Decode.{act_of, code_in, flat_at, StaysInside, RunsAlike}
 use Rattle.runs.proofs.Heads.{past_words}

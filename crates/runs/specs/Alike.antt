@@ -1,7 +1,7 @@
 -- The machine on the flat form does what the meaning's trees do. Assumes nothing.
-use Rattle.std.specs.Prelude.{◌≡◌, ℕ, zero, suc, ◌+◌, ◌<◌, ◌≤◌, Bool, true, false, List, [], ◌∷◌, ◌++◌, ◌≢◌}
-use Rattle.plans.specs.Plan.{Phase, Busy, Tasked, Asleep, Listens, Ended, Failed, Word, Flow, Moved, at, goes_on, ends, still, broken, heard, moves}
-use Rattle.runs.specs.Machine.{Act, Wrong, Op, Code, FlatFlow, FlatMoved, fgoes, fends, fstill, fbroken, fheard, fmoves, after_do, way_of, Is, Follows}
+use Rattle.std.specs.Prelude.{◌≡◌, ℕ, ◌+◌, Bool, true, false, [], ◌∷◌, ◌++◌, ◌≢◌}
+use Rattle.plans.specs.Plan.{Phase, Busy, Tasked, Asleep, Listens, Ended, Failed, Word, Flow, at, goes_on, ends, still, broken, heard, moves}
+use Rattle.runs.specs.Machine.{Wrong, Code, FlatFlow, FlatMoved, fgoes, fends, fstill, fbroken, fheard, fmoves, after_do, way_of, Is, Follows}
 
 -- move for move, with the same wish
 abbrev pub MovesAlike : Type 0

@@ -1,23 +1,21 @@
 -- What `step` does on a plan's words is what the machine does, and so what the meaning does. Assumes nothing.
-use Rattle.std.specs.Prelude.{◌≡◌, ℕ, zero, suc, ◌+◌, ◌<◌, ◌≤◌, Bool, true, false, cond, ◌&&◌, ◌⊎◌, List, [], ◌∷◌, length, drop, Ok, Err, Result}
-use Rattle.plans.specs.declared.eval.Damaged.{Damaged}
-use Rattle.plans.specs.Plan.{Name, Expr, Word, Flow, Wish, Phase as MeantPhase, Busy as busyP, Tasked as taskedP, Asleep as asleepP, Listens as listensP, Ended as endedP, Failed as failedP, take_word, without, capped, value, is_busy, none, still, further, moves, Moved as Meant}
+use Rattle.std.specs.Prelude.{◌≡◌, ℕ, ◌+◌, Bool, true, false, cond, ◌&&◌, ◌⊎◌, List, [], ◌∷◌, length, drop}
+use Rattle.plans.specs.Plan.{Name, Expr, Word, Flow, Phase as MeantPhase, Busy as busy_p, Tasked as tasked_p, Asleep as asleep_p, Listens as listens_p, Ended as ended_p, Failed as failed_p, take_word, without, capped, value, is_busy, none, still, moves, Moved as Meant}
 use Rattle.plans.specs.Eval.{look}
 use Rattle.runs.specs.declared.step.Phase.{Phase}
 use Rattle.runs.specs.declared.step.Phase.TheVariants.{Busy, Tasked, Asleep, Listens, Ended, Failed}
 use Rattle.runs.specs.declared.step.Place.{Place}
-use Rattle.runs.specs.declared.step.Moved.{Moved}
-use Rattle.runs.specs.Machine.{Act, SetOp, DoOp, SleepOp, HearOp, IfOp, WhileOp, EnterOp, GoOp, ReturnOp, FailOp, EndOp, Wrong, Code, FlatFlow, FlatMoved, fends, fstill, fheard, flistens, fdoes, spent, ffurther, fmoves, Is, Follows}
+use Rattle.runs.specs.Machine.{Act, SetOp, DoOp, SleepOp, HearOp, IfOp, WhileOp, EnterOp, GoOp, ReturnOp, FailOp, EndOp, Wrong, Code, FlatFlow, FlatMoved, fends, fstill, fheard, flistens, fdoes, spent, Is, Follows}
 use Rattle.runs.specs.Decode.{letters, code_in}
-use Rattle.runs.specs.Steps.{Out, Lost, Went, step_w, moves_w, wishes}
+use Rattle.runs.specs.Steps.{Out, Lost, Went, step_w, moves_w}
 
 unfoldable pub phase_in : List ℕ → Phase → MeantPhase
-phase_in ws Busy = busyP
-phase_in ws (Tasked s) = taskedP s
-phase_in ws (Asleep u) = asleepP u
-phase_in ws (Listens v w name u) = listensP v w (letters 64 (drop name ws)) u
-phase_in ws (Ended x) = endedP x
-phase_in ws Failed = failedP
+phase_in ws Busy = busy_p
+phase_in ws (Tasked s) = tasked_p s
+phase_in ws (Asleep u) = asleep_p u
+phase_in ws (Listens v w name u) = listens_p v w (letters 64 (drop name ws)) u
+phase_in ws (Ended x) = ended_p x
+phase_in ws Failed = failed_p
 
 -- a place and variables as the machine's flow; y has what a place does not: its name, its box and how large its plan is
 abbrev pub flow_in : List ℕ → Place → List ℕ → FlatFlow → FlatFlow
@@ -39,7 +37,7 @@ deaf now EndOp x = fdoes now EndOp x
 deaf now Wrong x = fdoes now Wrong x
 
 abbrev pub dfurther : Code → ℕ → FlatMoved → FlatMoved
-dfurther code now m = cond (is_busy m.flow.phase && none m.wish) (cond (spent (code m.flow.here).deep m.flow.steps) (fstill (fends failedP m.flow)) (deaf now (code m.flow.here).act m.flow)) m
+dfurther code now m = cond (is_busy m.flow.phase && none m.wish) (cond (spent (code m.flow.here).deep m.flow.steps) (fstill (fends failed_p m.flow)) (deaf now (code m.flow.here).act m.flow)) m
 
 -- no word in the box that it would hear here
 unfoldable pub Quiet : Act → List Word → Type 0

@@ -1,15 +1,15 @@
 -- The words of a flat form as what stands at each address. Assumes nothing.
-use Rattle.std.specs.Prelude.{◌≡◌, ℕ, zero, suc, ◌+◌, ◌<◌, ◌≤◌, Bool, true, false, cond, ◌&&◌, List, [], ◌∷◌, length, drop, Some, None, Option, ◌==◌, nat_le, nat_lt, slice_index}
+use Rattle.std.specs.Prelude.{◌≡◌, ℕ, zero, suc, ◌+◌, ◌<◌, ◌≤◌, Bool, true, cond, ◌&&◌, List, [], ◌∷◌, length, drop, Some, None, Option, ◌==◌, nat_le, nat_lt, slice_index}
 use Rattle.plans.specs.declared.eval.Join.{Join}
 use Rattle.plans.specs.declared.eval.Join.TheVariants.{Sum, Difference, Product, Under, Equal}
 use Rattle.plans.specs.declared.eval.Op.{Op as ExprOp}
 use Rattle.plans.specs.declared.eval.Op.TheVariants.{Push, Load, Pair, Negate, Halt}
 use Rattle.plans.specs.Eval.{op_of}
-use Rattle.plans.specs.Plan.{Name, Expr, Lit, Var, Plus, Minus, Times, Less, Same, Not, Block, Flow, Phase, Busy, Frame, Rest, block_ok, size_of, moves, still}
+use Rattle.plans.specs.Plan.{Name, Expr, Lit, Var, Plus, Minus, Times, Less, Same, Not, Block, Flow, Busy, Rest, block_ok, size_of, moves, still}
 use Rattle.plans.specs.Flat.{Way, Nowhere, To, laid}
 use Rattle.runs.specs.declared.unit.Statement.{Statement}
 use Rattle.runs.specs.declared.unit.Statement.TheVariants.{Set, Do, Sleep, Hear, If, While, Guard, Go, Return, Fail, End}
-use Rattle.runs.specs.Machine.{Act, SetOp, DoOp, SleepOp, HearOp, IfOp, WhileOp, EnterOp, GoOp, ReturnOp, FailOp, EndOp, Wrong, Op, op, Code, FlatFlow, fstill, fmoves, Is, Follows}
+use Rattle.runs.specs.Machine.{Act, SetOp, DoOp, SleepOp, HearOp, IfOp, WhileOp, EnterOp, GoOp, ReturnOp, FailOp, EndOp, Wrong, op, Code, FlatFlow, fstill, fmoves, Is, Follows}
 use Rattle.runs.specs.Units.{statement_at, deep_at}
 
 -- expressions: the units run on a stack of trees, as the evaluator runs them on values -------

@@ -1,5 +1,5 @@
 -- What is told to a flow that waits. Assumes nothing.
-use Rattle.std.specs.Prelude.{◌≡◌, ℕ, ◌<◌, ◌≤◌, Bool, true, false, cond, ltb, List, [], ◌∷◌, length, set, Some, None, Ok, Err, Option, Result}
+use Rattle.std.specs.Prelude.{ℕ, List, Some, None, Ok, Err, Option, Result}
 use Rattle.plans.specs.declared.eval.Damaged.{Damaged}
 use Rattle.plans.specs.Plan.{Flow}
 use Rattle.runs.specs.declared.unit.Statement.{Statement}
@@ -8,7 +8,7 @@ use Rattle.runs.specs.declared.step.Place.{Place}
 use Rattle.runs.specs.declared.event.Task.{Task}
 use Rattle.runs.specs.Machine.{FlatFlow, Is}
 use Rattle.runs.specs.Decode.{code_in}
-use Rattle.runs.specs.Steps.{Out, Lost, Went, gone_to, fails_to}
+use Rattle.runs.specs.Steps.{Out, Lost}
 use Rattle.runs.specs.Carried.{flow_in}
 
 -- where a task goes on, and where its failure goes

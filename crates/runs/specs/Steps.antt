@@ -1,5 +1,5 @@
 -- One move on the words, as a function: what `step` does, on damaged words too. Assumes nothing.
-use Rattle.std.specs.Prelude.{◌≡◌, ℕ, zero, suc, ◌+◌, ◌<◌, ◌≤◌, Bool, true, false, cond, ◌&&◌, ◌||◌, List, [], ◌∷◌, length, take, drop, Some, None, Ok, Err, Option, Result, ◌==◌, nat_le, nat_lt, slice_index, slice_set}
+use Rattle.std.specs.Prelude.{◌≡◌, ℕ, zero, suc, ◌+◌, Bool, true, false, cond, ◌&&◌, List, [], ◌∷◌, length, take, drop, Some, None, Ok, Err, Option, Result, ◌==◌, nat_le, nat_lt, slice_index, slice_set}
 use Rattle.plans.specs.declared.eval.Damaged.{Damaged}
 use Rattle.plans.specs.Plan.{Wish as Wished, capped}
 use Rattle.plans.specs.Eval.{Out as Run, Bad, Stop, run_e, One, no_value, one_value, one_of}

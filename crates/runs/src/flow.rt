@@ -1,6 +1,6 @@
 // A run: a flow goes on by itself until it waits, ends, or has made a thousand moves.
 ghost use Rattle.std.specs.Prelude.{◌≡◌, ℕ, ◌≤◌, false, ◌⊎◌, [], length};
-ghost use Rattle.plans.specs.Plan.{Flow as Meant, still, moves as meantMoves};
+ghost use Rattle.plans.specs.Plan.{Flow as Meant, still, moves as meant_moves};
 ghost use Rattle.runs.specs.Machine.{FlatFlow, Is};
 ghost use Rattle.runs.specs.Decode.{code_in};
 ghost use Rattle.runs.specs.Carried.{flow_in};
@@ -63,7 +63,7 @@ pub fn run(
     requires small { length words.now ≤ 16384 }
     requires all { length vars.old ≡ 64 }
     ensures flat { RanTo (length stack.old) words.now time place vars.old result vars.new }
-    ensures meant { (x : Meant) (y : FlatFlow) → (y.box ≡ []) ⊎ (ends_listening result ≡ false) → Is (code_in (length stack.old) words.now) (flow_in words.now place vars.old y) x → CameTo (length stack.old) words.now y result vars.new (meantMoves 1000 time (still x)) }
+    ensures meant { (x : Meant) (y : FlatFlow) → (y.box ≡ []) ⊎ (ends_listening result ≡ false) → Is (code_in (length stack.old) words.now) (flow_in words.now place vars.old y) x → CameTo (length stack.old) words.now y result vars.new (meant_moves 1000 time (still x)) }
 {
     go_on(words, place, time, vars, stack)
 }

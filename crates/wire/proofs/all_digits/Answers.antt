@@ -1,4 +1,4 @@
-use Rattle.std.proofs.Common.{◌≡◌, sym, refl, ◌∙◌, arith}
+use Rattle.std.proofs.Common.{sym, ◌∙◌, arith}
 use Rattle.wire.proofs.Hex.{digits_more, digits_stop, digits_end}
 use Rattle.wire.proofs.all_digits.Goals as goal
 use Rattle.wire.proofs.all_digits.Goals.{then-line-i-lt48-via-then-line-i-lt48, then-line-i-lt48-via-else-line-i-lt48+then-line-i-gt57}

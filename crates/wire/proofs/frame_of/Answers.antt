@@ -1,4 +1,4 @@
-use Rattle.std.proofs.Common.{◌≡◌, ℕ, List, Some, None, Ok, Err, vec_items, Option, sym, refl, ap, ◌∙◌, subst, arith}
+use Rattle.std.proofs.Common.{◌≡◌, ℕ, List, Some, None, Ok, Err, vec_items, Option, sym, subst}
 use Rattle.wire.proofs.Hex.{frame_is}
 use Rattle.wire.proofs.frame_of.Goals as goal
 

@@ -1,4 +1,4 @@
-use Rattle.std.proofs.Common.{◌≡◌, ◌+◌, ◌*◌, length, drop, sym, refl, ap, ◌∙◌, arith}
+use Rattle.std.proofs.Common.{◌+◌, ◌*◌, drop, sym, ap, ◌∙◌, arith}
 use Rattle.wire.specs.Frames.{bytes_of}
 use Rattle.wire.proofs.Hex.{before, odd_none, hex_more, none_high, none_low, hex_end}
 use Rattle.wire.proofs.from_hex.Goals as goal

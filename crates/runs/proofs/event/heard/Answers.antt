@@ -1,4 +1,4 @@
-use Rattle.std.proofs.Common.{◌≡◌, refl}
+use Rattle.std.proofs.Common.{refl}
 use Rattle.runs.proofs.Tidings.{heard_in}
 use Rattle.runs.proofs.event.heard.Goals as goal
 

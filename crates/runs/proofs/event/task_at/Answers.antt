@@ -1,4 +1,4 @@
-use Rattle.std.proofs.Common.{◌≡◌, ap, ◌∙◌}
+use Rattle.std.proofs.Common.{ap, ◌∙◌}
 use Rattle.runs.specs.Events.{task_in}
 use Rattle.runs.proofs.event.task_at.Goals as goal
 

@@ -1,4 +1,4 @@
-use Rattle.std.proofs.Common.{◌≡◌, [], set, Ok, Err, sym, ap}
+use Rattle.std.proofs.Common.{[], set, Ok, Err, sym, ap}
 use Rattle.runs.specs.declared.step.Place.{Place}
 use Rattle.runs.specs.Steps.{Went, gone_to}
 use Rattle.runs.specs.Units.{statement_at}

@@ -1,5 +1,4 @@
-use Rattle.std.proofs.Common.{◌≡◌, [], Ok, Err, sym, ap}
-use Rattle.plans.specs.declared.eval.Damaged.{Damaged}
+use Rattle.std.proofs.Common.{[], Ok, Err, sym, ap}
 use Rattle.runs.specs.declared.step.Place.{Place}
 use Rattle.runs.specs.Steps.{Went, fails_to}
 use Rattle.runs.specs.Units.{statement_at}

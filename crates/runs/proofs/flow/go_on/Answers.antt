@@ -1,4 +1,4 @@
-use Rattle.std.proofs.Common.{◌≡◌, ◌+◌, length, sym, refl, ◌∙◌, arith}
+use Rattle.std.proofs.Common.{◌+◌, length, sym, refl, arith}
 use Rattle.std.proofs.lemmas.Result.{err_from_is_err_and}
 use Rattle.runs.specs.Steps.{moves_w}
 use Rattle.runs.proofs.Loops.{turn_lost, turn_on, turn_wished, turn_none, run_calm, run_full}

@@ -1,4 +1,4 @@
-use Rattle.std.proofs.Common.{◌≡◌, [], length, sym, ap, ◌∙◌, arith}
+use Rattle.std.proofs.Common.{[], length, sym, ap}
 use Rattle.runs.specs.declared.step.Place.{Place}
 use Rattle.runs.specs.Steps.{Went, does_w}
 use Rattle.runs.proofs.Arms.{arm}

@@ -1,5 +1,3 @@
-use Rattle.std.proofs.Common.{◌≡◌, length, sym, ◌∙◌, arith}
-use Rattle.std.proofs.lemmas.Result.{err_from_is_err_and}
 use Rattle.runs.proofs.Arms.{fails_nowhere, fails_to_lem}
 use Rattle.runs.proofs.step.fails.Goals as goal
 

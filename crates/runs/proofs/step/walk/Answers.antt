@@ -1,4 +1,4 @@
-use Rattle.std.proofs.Common.{◌≡◌, length, sym, ap, ◌∙◌, arith}
+use Rattle.std.proofs.Common.{length, sym, ◌∙◌, arith}
 use Rattle.runs.proofs.Arms.{step_calm, step_spent, step_does, step_some, step_none}
 use Rattle.runs.proofs.step.walk.Goals as goal
 
