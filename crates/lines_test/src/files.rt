@@ -56,7 +56,11 @@ impl OpenFile for Faulty {
 }
 
 fn check(holds: bool, what: &str) -> anyhow::Result<()> {
-    if holds { Ok(()) } else { Err(what.into()) }
+    if holds {
+        Ok(())
+    } else {
+        Err(anyhow!("{what}"))
+    }
 }
 
 // The file is made, and a few words are written.
