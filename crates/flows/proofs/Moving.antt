@@ -1,7 +1,7 @@
 -- What a flow does by itself.
 use Rattle.std.proofs.Common.{◌≡◌, ℕ, zero, suc, ◌<◌, ◌≤◌, Bool, true, false, cond, ◌&&◌, ◌||◌, eqb, ltb, leb, List, [], ◌∷◌, length, refl, ap, ◌∙◌, arith}
 use Rattle.std.proofs.lemmas.Bool.Decides.{nat_tests}
-use Rattle.plans.specs.Plan.{Name, Expr, Stmt, Set, Do, Sleep, Hear, If, While, Guard, Return, FailNow, done, then, Frame, Rest, Catch, Phase, Busy, Tasked, Asleep, Listens, Ended, Failed, Word, Flow, Wish, Moved, at, goes_on, ends, still, broken, take_word, listens, value, values, rest_of, step, is_busy, none, further, moves, stmt_ok, block_ok}
+use Rattle.plans.specs.Plan.{Name, Expr, Stmt, Set, Do, Sleep, Hear, If, While, Guard, Return, FailNow, done, then, Frame, Rest, Catch, Phase, Busy, Tasked, Asleep, Listens, Ended, Failed, Word, Flow, Wish, Moved, goes_on, ends, still, broken, take_word, listens, value, values, rest_of, step, is_busy, none, further, moves, stmt_ok, block_ok}
 use Rattle.plans.specs.Plan.{does as doesStmt}
 use Rattle.flows.specs.One.{frames_ok}
 use Rattle.flows.specs.Fine.{Asks}
