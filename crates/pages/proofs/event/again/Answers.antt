@@ -1,5 +1,4 @@
-use Rattle.std.proofs.Common.{◌≡◌, ℕ, ◌+◌, ◌-◌, ◌*◌, ◌%◌, ◌^◌, ◌<◌, ap, arith}
-use mir.Facts.{Fits-lt}
+use Rattle.std.proofs.Common.{ℕ, ◌+◌, ap, arith}
 use Rattle.pages.specs.declared.flow.Standing.TheVariants.{Due}
 use Rattle.pages.proofs.Pauses.{pauses}
 use Rattle.pages.proofs.event.again.Goals as goal

@@ -1,4 +1,4 @@
-use Rattle.std.proofs.Common.{◌≡◌, ℕ, List, length, ap, ◌∙◌}
+use Rattle.std.proofs.Common.{ℕ, List, length, ap, ◌∙◌}
 use Rattle.pages.specs.Events.{ran_on, at_first, begun}
 use Rattle.pages.specs.Holds.{BeginsAs}
 use Rattle.pages.proofs.Given.{given_as}

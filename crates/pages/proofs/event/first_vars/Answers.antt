@@ -1,4 +1,4 @@
-use Rattle.std.proofs.Common.{◌≡◌, ℕ, ◌-◌, List, ◌++◌, length, drop, sym, ap, ◌∙◌, ap₂, arith}
+use Rattle.std.proofs.Common.{◌≡◌, ℕ, ◌-◌, List, ◌++◌, length, drop, ◌∙◌, ap₂, arith}
 use Rattle.pages.specs.Page.{zeros}
 use Rattle.pages.proofs.Turns.{vars_filled}
 use Rattle.pages.proofs.event.first_vars.Goals as goal

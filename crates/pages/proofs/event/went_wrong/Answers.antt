@@ -1,4 +1,4 @@
-use Rattle.std.proofs.Common.{◌≡◌, length, sym, ap, ◌∙◌}
+use Rattle.std.proofs.Common.{length, sym, ◌∙◌}
 use Rattle.std.proofs.lemmas.Result.{err_from_is_err_and}
 use Rattle.pages.proofs.Turns.{wrong_none, wrong_unfair, wrong_again, wrong_last, failed_lost, failed_went}
 use Rattle.pages.specs.Events.{wrong_on}

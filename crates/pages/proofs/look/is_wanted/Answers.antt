@@ -1,4 +1,4 @@
-use Rattle.std.proofs.Common.{◌≡◌, true, false, leb, rules}
+use Rattle.std.proofs.Common.{◌≡◌, false, leb, rules}
 use Rattle.pages.specs.Events.{wanted_task}
 use Rattle.pages.specs.Holds.{WantedAs}
 use Rattle.pages.proofs.Asked.{wanted_held}

@@ -1,8 +1,6 @@
-use Rattle.std.proofs.Common.{◌≡◌, ℕ, cond, ltb, List, get_or, Ok, Err, sym, ap, ◌∙◌}
+use Rattle.std.proofs.Common.{ℕ, ltb, List, get_or, Ok, sym, ap, ◌∙◌}
 use Rattle.std.proofs.lemmas.Result.{err_from_is_err_and}
 use Rattle.std.proofs.lemmas.Bool.{cond-true, cond-false, and_left, and_right, and_from, le-ltb, lt-ltb}
-use Rattle.runs.specs.declared.step.Place.{Place}
-use Rattle.pages.specs.Page.{damaged, agree, flow_of}
 use Rattle.pages.proofs.Words.{decoded, no_phase, no_task_lem}
 use Rattle.pages.proofs.page.decode.Goals as goal
 

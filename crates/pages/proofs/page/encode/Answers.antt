@@ -1,5 +1,4 @@
-use Rattle.std.proofs.Common.{◌≡◌, ℕ, List, ◌∷◌, ◌++◌, length, sym, refl, ap, ◌∙◌, subst, ap₂, arith}
-use borrow.Rule.Slice.PartMut.{put_mid, post_of}
+use Rattle.std.proofs.Common.{◌≡◌, ℕ, List, ◌++◌, length, ◌∙◌, ap₂, arith}
 use Rattle.pages.specs.Page.{encode_of, place_words, task_words, zeros}
 use Rattle.pages.proofs.Words.{laid}
 use Rattle.pages.proofs.page.encode.Goals as goal

@@ -1,4 +1,4 @@
-use Rattle.std.proofs.Common.{◌≡◌, ℕ, ◌-◌, List, ◌++◌, length, take, drop, replicate, sym, ap, ◌∙◌, arith, length-take-le}
+use Rattle.std.proofs.Common.{◌≡◌, ℕ, ◌-◌, List, ◌++◌, take, drop, replicate, ap, ◌∙◌, arith, length-take-le}
 use Rattle.pages.proofs.Words.{filled}
 use Rattle.pages.proofs.page.first_args.Goals as goal
 

@@ -1,9 +1,9 @@
-use Rattle.std.proofs.Common.{◌≡◌, ℕ, cond, leb, List, get_or, take, drop, Some, None, Ok, Err, Option, Result, sym, ap, ◌∙◌}
+use Rattle.std.proofs.Common.{ℕ, cond, leb, List, get_or, Some, Ok, Option, Result, sym, ap, ◌∙◌}
 use Rattle.std.proofs.lemmas.Bool.{cond-true, cond-false, and_left, lt-leb}
 use Rattle.plans.specs.declared.eval.Damaged.{Damaged}
 use Rattle.pages.specs.declared.flow.Standing.{Standing}
 use Rattle.pages.specs.declared.flow.Task.{Task}
-use Rattle.pages.specs.Page.{fill, fair, damaged, as_task, task_as}
+use Rattle.pages.specs.Page.{fair, damaged, as_task, task_as}
 use Rattle.pages.proofs.page.task_as.Goals as goal
 
 with_args : List ℕ → Standing → List ℕ → Task

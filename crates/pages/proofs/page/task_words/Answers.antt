@@ -1,4 +1,4 @@
-use Rattle.std.proofs.Common.{◌≡◌, ℕ, List, [], ◌∷◌, ◌++◌, replicate, sym, ap, ◌∙◌, ap₂}
+use Rattle.std.proofs.Common.{◌≡◌, ℕ, List, [], ◌∷◌, ◌++◌, sym, ap, ◌∙◌, ap₂}
 use borrow.Rule.Slice.PartMut.{put_mid}
 use Rattle.pages.specs.Page.{task_words, zeros, tag_of, since_of}
 use Rattle.pages.proofs.Words.{task_laid}
