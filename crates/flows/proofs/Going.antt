@@ -3,7 +3,7 @@ use Rattle.std.proofs.Common.{◌≡◌, ℕ, ◌<◌, ◌≤◌, Bool, true, fa
 use Rattle.std.proofs.lemmas.Bool.Decides.{nat_tests}
 use Rattle.plans.specs.Plan.{Frame, Phase, Busy, Tasked, Asleep, Listens, Ended, Failed, Flow, Wish, Moved, at, goes_on, still, broken, heard, moves}
 use Rattle.flows.specs.House.{Due, Out, Task, keep, change, is_task, wished, step_of, again, stands_as, is_late, is_out}
-use Rattle.flows.specs.One.{of, One, moved_one, fails_one, with_task, wrong_one, works_one, late_all, woken_one, woken_all, ticked_one, frames_ok}
+use Rattle.flows.specs.One.{One, moved_one, fails_one, with_task, wrong_one, works_one, late_all, woken_one, woken_all, ticked_one, frames_ok}
 use Rattle.flows.specs.Fine.{waits_task, AsksOf, Fine, absent, calm, tasked, Later, After, Goes}
 use Rattle.flows.proofs.Lists.{bool, same_head, not_nil, eqb_self}
 use Rattle.flows.proofs.Moving.{Agrees, Moving, broken_moving, moves_moving}

@@ -1,8 +1,8 @@
 -- What a flow does by itself.
 use Rattle.std.proofs.Common.{◌≡◌, ℕ, zero, suc, ◌<◌, ◌≤◌, Bool, true, false, cond, ◌&&◌, ◌||◌, eqb, ltb, leb, List, [], ◌∷◌, length, refl, ap, ◌∙◌, arith}
 use Rattle.std.proofs.lemmas.Bool.Decides.{nat_tests}
-use Rattle.plans.specs.Plan.{Name, Expr, Stmt, Set, Do, Sleep, Hear, If, While, Guard, Return, FailNow, done, then, Frame, Rest, Catch, Phase, Busy, Tasked, Asleep, Listens, Ended, Failed, Word, Flow, Wish, Moved, at, goes_on, ends, still, broken, take_word, listens, value, values, rest_of, step, is_busy, none, further, moves, stmt_ok, block_ok}
-use Rattle.plans.specs.Plan.{does as doesStmt}
+use Rattle.plans.specs.Plan.{Name, Expr, Stmt, Set, Do, Sleep, Hear, If, While, Guard, Return, FailNow, done, then, Frame, Rest, Catch, Phase, Busy, Tasked, Asleep, Listens, Ended, Failed, Word, Flow, Wish, Moved, goes_on, ends, still, broken, take_word, listens, value, values, rest_of, step, is_busy, none, further, moves, stmt_ok, block_ok}
+use Rattle.plans.specs.Plan.{does as does_stmt}
 use Rattle.flows.specs.One.{frames_ok}
 use Rattle.flows.specs.Fine.{Asks}
 
@@ -41,8 +41,8 @@ unfolding values
 length_values [] f = refl
 length_values (e ∷ es) f = ap suc (length_values es f)
 
-pub does_moving : (base now : ℕ) (s : Stmt) (fs : List Frame) (x : Flow) → stmt_ok s ≡ true → frames_ok fs ≡ true → base ≤ x.steps → Moving base x (doesStmt now s fs x)
-unfolding doesStmt stmt_ok frames_ok block_ok
+pub does_moving : (base now : ℕ) (s : Stmt) (fs : List Frame) (x : Flow) → stmt_ok s ≡ true → frames_ok fs ≡ true → base ≤ x.steps → Moving base x (does_stmt now s fs x)
+unfolding does_stmt stmt_ok frames_ok block_ok
 does_moving base now (Set v e) fs x o k l = record { id = refl; key = refl; size = refl; frames = k; agrees = (refl, l) }
 does_moving base now (Do v kd es t p) fs x o k l = record { id = refl; key = refl; size = refl; frames = k; agrees = (record { kind = kd; args = values es x.vars; tries = t; pause = p }, refl, omega arith, l, grind (arith, nat_tests), record { kind = grind (arith, nat_tests); args = rw (length_values es x.vars) (grind (arith, nat_tests)); tries = grind (arith, nat_tests); pause = grind (arith, nat_tests) }) }
 does_moving base now (Sleep e) fs x o k l = record { id = refl; key = refl; size = refl; frames = k; agrees = (refl, omega arith) }
@@ -101,8 +101,8 @@ unfolding listens
 listens_id v w n u [] fs x = refl
 listens_id v w n u (y ∷ ys) fs x = refl
 
-does_id : (now : ℕ) (s : Stmt) (fs : List Frame) (x : Flow) → (doesStmt now s fs x).flow.id ≡ x.id
-unfolding doesStmt
+does_id : (now : ℕ) (s : Stmt) (fs : List Frame) (x : Flow) → (does_stmt now s fs x).flow.id ≡ x.id
+unfolding does_stmt
 does_id now (Set v e) fs x = refl
 does_id now (Do v kd es t p) fs x = refl
 does_id now (Sleep e) fs x = refl

@@ -3,7 +3,7 @@ use Rattle.std.proofs.Common.{◌≡◌, ℕ, zero, suc, ◌+◌, ◌<◌, Bool,
 use mathlib.Core.List.{Memᴰ}
 use Rattle.std.proofs.lemmas.Bool.Decides.{nat_tests}
 use Rattle.plans.specs.Plan.{Name, Failed, Word, Flow, ends}
-use Rattle.flows.specs.House.{Task, House, Out', no, says, keep, find, is_key, is_task, is_over, listens_for, the_same, wanted, sooner, first, later, Yes, forgets, cancels, shows, tells as tellsHouse, reports, longer, hands_out, ticks, timed}
+use Rattle.flows.specs.House.{Task, House, Out', no, says, keep, find, is_key, is_task, is_over, listens_for, the_same, wanted, sooner, first, later, Yes, forgets, cancels, shows, tells as tells_house, reports, longer, hands_out, ticks, timed}
 use Rattle.flows.specs.One.{of, One, look, woken_all, late_all, ticked_one}
 use Rattle.flows.specs.Summed.{told_one, tells_one, cancels_one, forgets_one, stands_one, longer_one, reports_one}
 use Rattle.flows.specs.Seats.{Seats, Seated, seat_count, nobody, refuse, answer, put_at, put, seat_with, holds_key, holds_id, at_seat, shows_flow, forgets_flow, cancels_flow, tells_flow, flow_at, reports_task, longer_task, task_at, Found, sooned, better, soonest, hands_seat, ticks_seats, Holds, Sits}
@@ -89,20 +89,20 @@ cancel_stays n f h s = by_seat n cancels_flow cancels f h s refl (λ i q. at i q
         let w : Holds (put_at i o f) (cancels (x ∷ []) h).house = key_put n (λ xs. (cancels xs h).house) cancels_one f o h i q s (onward_cancels h (x ∷ []) s.good (key_mem f h n i q)) (rw e refl) (λ j. cancels_look n j h s.good) (λ p. refl) over in
         rw e (refl, record { now = refl; next = refl; holds = rw e at w })
 
-pub tell_stays : (w : Word) (n : Name) (f : ℕ → One) (h : House) → Holds f h → Stays (flow_at (tells_flow w) n (seats_of h f)) (tellsHouse w (find (is_key n) h.flows) h)
-unfolding tells_flow tellsHouse tells_one
-tell_stays w n f h s = by_seat n (tells_flow w) (tellsHouse w) f h s refl (λ i q. at i q (bool (is_over q.flow.phase)) (bool (leb 64 (length q.flow.box) && not (listens_for w q.flow.phase))))
+pub tell_stays : (w : Word) (n : Name) (f : ℕ → One) (h : House) → Holds f h → Stays (flow_at (tells_flow w) n (seats_of h f)) (tells_house w (find (is_key n) h.flows) h)
+unfolding tells_flow tells_house tells_one
+tell_stays w n f h s = by_seat n (tells_flow w) (tells_house w) f h s refl (λ i q. at i q (bool (is_over q.flow.phase)) (bool (leb 64 (length q.flow.box) && not (listens_for w q.flow.phase))))
   where
-    at : (i : ℕ) (q : KeyAt f h n i) → (is_over q.flow.phase ≡ true) ⊎ (is_over q.flow.phase ≡ false) → ((leb 64 (length q.flow.box) && not (listens_for w q.flow.phase)) ≡ true) ⊎ ((leb 64 (length q.flow.box) && not (listens_for w q.flow.phase)) ≡ false) → Stays (tells_flow w i (q.flow ∷ []) (seats_of h f)) (tellsHouse w (q.flow ∷ []) h)
+    at : (i : ℕ) (q : KeyAt f h n i) → (is_over q.flow.phase ≡ true) ⊎ (is_over q.flow.phase ≡ false) → ((leb 64 (length q.flow.box) && not (listens_for w q.flow.phase)) ≡ true) ⊎ ((leb 64 (length q.flow.box) && not (listens_for w q.flow.phase)) ≡ false) → Stays (tells_flow w i (q.flow ∷ []) (seats_of h f)) (tells_house w (q.flow ∷ []) h)
     at i q (inl e) c = rw e (refl, sat f h s)
     at i q (inr e) (inl c) = rw (e, c) (refl, sat f h s)
     at i q (inr e) (inr c) =
         let x : Flow = q.flow in
         let o : One = told_one h.now x.phase w x (f i) in
         let told : tells_one h.now w (x ∷ []) (f i) ≡ o = rw (e, c) refl in
-        let fr : Frame' h (tellsHouse w (x ∷ []) h).house = tells_frame w (x ∷ []) h in
-        let v : Holds (put_at i o f) (tellsHouse w (x ∷ []) h).house = key_put n (λ xs. (tellsHouse w xs h).house) (tells_one h.now w) f o h i q s (onward_tells h w (x ∷ []) s.good (key_mem f h n i q)) fr.1 (λ j. tells_look n j w h s.good) (λ p. refl) told in
-        let z : Sits (put i o (seats_of h f)) (tellsHouse w (x ∷ []) h).house = record { now = sym fr.0; next = sym fr.1; holds = v } in
+        let fr : Frame' h (tells_house w (x ∷ []) h).house = tells_frame w (x ∷ []) h in
+        let v : Holds (put_at i o f) (tells_house w (x ∷ []) h).house = key_put n (λ xs. (tells_house w xs h).house) (tells_one h.now w) f o h i q s (onward_tells h w (x ∷ []) s.good (key_mem f h n i q)) fr.1 (λ j. tells_look n j w h s.good) (λ p. refl) told in
+        let z : Sits (put i o (seats_of h f)) (tells_house w (x ∷ []) h).house = record { now = sym fr.0; next = sym fr.1; holds = v } in
         rw (e, c) (refl, rw (e, c) at z)
 
 -- BY NUMBER

@@ -1,7 +1,7 @@
 -- The house is the sum of its flows.
 use Rattle.std.proofs.Common.{◌≡◌, ℕ, Bool, true, false, cond, not, eqb, ltb, leb, ◌⊎◌, List, [], ◌∷◌, ◌++◌, map, refl, ap, ◌∙◌, inl, inr, arith}
 use Rattle.std.proofs.lemmas.Bool.Decides.{nat_tests}
-use Rattle.plans.specs.Plan.{Phase, Busy, Tasked, Asleep, Listens, Ended, Failed, Flow, Wish, at, still, broken, moves}
+use Rattle.plans.specs.Plan.{Phase, Busy, Tasked, Asleep, Listens, Ended, Failed, Flow, Wish, still, broken, moves}
 use Rattle.flows.specs.House.{Task, House, keep, find, change, is_flow, is_task, wished, step_of, moved, again, is_late, with_tasks, went_wrong, fails, all_late, woken, all_woken, ticks}
 use Rattle.flows.specs.One.{of, One, look, moved_one, fails_one, with_task, wrong_one, late_one, late_all, woken_one, woken_all, ticked_one}
 use Rattle.flows.proofs.Lists.{bool, find_change_same, find_change_other, keep_change_other, keep_change_same, keep_keep, keep_keep_other, keep_append, find_mem, map_change, keep_find, Uniq, eqb_same, eqb_self}

@@ -1,7 +1,7 @@
 -- The house: flows, tasks that workers take, words that come, time.
 -- Assumes nothing.
 use Rattle.std.specs.Prelude.{ℕ, zero, suc, ◌+◌, ◌*◌, ◌%◌, Bool, true, false, cond, not, ◌&&◌, ◌||◌, ltb, List, [], ◌∷◌, ◌++◌, length, ◌==◌, nat_eq, nat_le, nat_lt}
-use Rattle.plans.specs.Plan.{Name, Block, then, Rest, Phase, Busy, Tasked, Asleep, Listens, Ended, Failed, Word, Flow, Wish, Moved, top, at, same_name, goes_on, ends, still, broken, heard, moves, every, name_ok, word_ok, size_of, block_ok, plain}
+use Rattle.plans.specs.Plan.{Name, Block, Rest, Phase, Busy, Tasked, Asleep, Listens, Ended, Failed, Word, Flow, Wish, Moved, top, at, same_name, goes_on, ends, still, broken, heard, moves, every, name_ok, word_ok, size_of, block_ok, plain}
 
 pub data Standing : Type 0 where
   Due : (at : ℕ) → Standing

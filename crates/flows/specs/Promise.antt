@@ -2,7 +2,7 @@
 -- Assumes nothing.
 use Rattle.std.specs.Prelude.{◌≡◌, ℕ, ◌+◌, ◌*◌, ◌<◌, ◌≤◌, Bool, true, false, not, ◌&&◌, T, List, [], ◌∷◌, ◌==◌, ◌≢◌, nat_le, nat_lt}
 use mathlib.Core.List.{Memᴰ}
-use Rattle.plans.specs.Plan.{Name, Phase, Busy, Tasked, Asleep, Listens, Ended, Failed, Flow, every, same_name}
+use Rattle.plans.specs.Plan.{Name, Phase, Busy, Tasked, Asleep, Listens, Ended, Failed, Flow, same_name}
 use Rattle.flows.specs.House.{Standing, Due, Out, Task, House, blank, Call, Start, Tell, Cancel, Take, Longer, Report, Show, Forget, Tick, Reply, No, Yes, Job, Full', does, down, weight_of, core, carried, is_flow, is_tick}
 use Rattle.device.specs.Lines.{Engine, Sense, Sensible, Modest}
 

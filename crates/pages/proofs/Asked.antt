@@ -1,14 +1,13 @@
 -- What is asked of a flow with its task, and what changes it without its plan, as the house has it. Assumes nothing.
-use Rattle.std.proofs.Common.{◌≡◌, ℕ, ◌+◌, ◌<◌, ◌≤◌, Bool, true, false, cond, ◌&&◌, ◌||◌, eqb, leb, List, [], ◌∷◌, Some, None, Option, sym, refl, ap, ◌∙◌, subst, ap₂, arith}
+use Rattle.std.proofs.Common.{◌≡◌, ℕ, Bool, true, false, cond, ◌&&◌, ◌||◌, eqb, List, [], ◌∷◌, Some, None, Option, sym, refl, ap, ◌∙◌, subst, ap₂, arith}
 use Rattle.std.proofs.lemmas.Bool.{eq-eqb}
-use Rattle.plans.specs.Plan.{Flow as Meant, Phase as MeantPhase, Failed as failedP, ends}
-use Rattle.flows.specs.House.{Task as Job, Out as outJob, stands_as as standsJob, change, some, find, is_task, is_out, the_same, is_over, is_due, wanted, due_at}
-use Rattle.flows.specs.One.{One, with_task as withJobs}
+use Rattle.plans.specs.Plan.{Failed as failed_p, ends}
+use Rattle.flows.specs.House.{Task as Job, Out as out_job, stands_as as stands_job, some, find, is_task, is_out, is_over, is_due, wanted, due_at}
+use Rattle.flows.specs.One.{One}
 use Rattle.flows.specs.Summed.{stands_one, cancels_one}
 use Rattle.runs.specs.declared.step.Phase.{Phase}
 use Rattle.runs.specs.declared.step.Phase.TheVariants.{Busy, Tasked, Asleep, Listens, Ended, Failed}
-use Rattle.runs.specs.declared.step.Place.{Place}
-use Rattle.runs.specs.Machine.{FlatFlow, Is}
+use Rattle.runs.specs.Machine.{FlatFlow}
 use Rattle.runs.specs.Decode.{code_in}
 use Rattle.runs.specs.Steps.{ended_as}
 use Rattle.runs.specs.Carried.{phase_in, flow_in}
@@ -17,10 +16,9 @@ use Rattle.pages.specs.declared.flow.Standing.{Standing}
 use Rattle.pages.specs.declared.flow.Standing.TheVariants.{Due, Out}
 use Rattle.pages.specs.declared.flow.Task.{Task}
 use Rattle.pages.specs.declared.flow.Flow.{Flow}
-use Rattle.pages.specs.declared.flow.Tried.{Tried}
 use Rattle.pages.specs.declared.flow.Tried.TheVariants as tries
-use Rattle.pages.specs.Sound.{TaskOk, Agree, Sound}
-use Rattle.pages.specs.Events.{with_task, stands_as, out_task, handed_out, due_for, one_of, wanted_task, due_since, due_task, step_in, out_now, tried_task, over_in, cancelled_of}
+use Rattle.pages.specs.Sound.{TaskOk, Agree}
+use Rattle.pages.specs.Events.{stands_as, out_task, handed_out, due_for, one_of, wanted_task, due_since, due_task, step_in, out_now, tried_task, over_in, cancelled_of}
 use Rattle.pages.specs.Holds.{standing_of, job_of, jobs_of, Holds, HandedAs, WantedAs, DueAs, tried_in, TriedAs, OverAs, CancelledAs}
 use Rattle.pages.proofs.Codes.{agreed_task}
 use Rattle.pages.proofs.Held.{phase_is}
@@ -58,7 +56,7 @@ handed_held until f room ws j y o e h = subst (λ (p : One). Holds room ws (hand
     whole : stands_one until j o ≡ new
     whole =
         ap₂ (λ (a : Job) (p : One). stands_one until a p) t.job (holds_as room ws f y o (Some u) t.is h)
-        ∙ ap (λ (l : List Job). record { flow = h.x ∷ []; task = l }) (change_one (standsJob (outJob until)) (job_of y.id s u))
+        ∙ ap (λ (l : List Job). record { flow = h.x ∷ []; task = l }) (change_one (stands_job (out_job until)) (job_of y.id s u))
 
     agreed : Agree f.place.phase (Some u)
     agreed = subst (λ (m : Option Task). Agree f.place.phase m) t.is h.sound.task
@@ -171,7 +169,7 @@ cancelled_held f room ws y o h = subst (λ (p : One). Holds room ws (cancelled_o
     W = pair h.x y.id (step_in f.place.phase) f.task
 
     off : One
-    off = record { flow = ends failedP h.x ∷ []; task = [] }
+    off = record { flow = ends failed_p h.x ∷ []; task = [] }
 
     g : Flow
     g = record { place = ended_as Failed f.place; vars = f.vars; task = None }
@@ -183,4 +181,4 @@ cancelled_held f room ws y o h = subst (λ (p : One). Holds room ws (cancelled_o
 
     go : (b : Bool) → Holds room ws (cond b f g) y (cond b W off)
     go true = held_pair room ws f y o f.task refl h
-    go false = record { x = ends failedP h.x; flow = refl; is = ends_alike (code_in room ws) (flow_in ws f.place f.vars y) h.x h.is; box = h.box; task = refl; sound = record { vars = h.sound.vars; into = h.sound.into; phase = tt; task = tt } }
+    go false = record { x = ends failed_p h.x; flow = refl; is = ends_alike (code_in room ws) (flow_in ws f.place f.vars y) h.x h.is; box = h.box; task = refl; sound = record { vars = h.sound.vars; into = h.sound.into; phase = tt; task = tt } }

@@ -1,17 +1,15 @@
 -- What was written is read, and is words. Assumes nothing.
-use Rattle.std.proofs.Common.{◌≡◌, ℕ, zero, suc, ◌+◌, ◌-◌, ◌<◌, ◌≤◌, Bool, true, false, cond, ◌&&◌, eqb, ltb, leb, List, [], ◌∷◌, ◌++◌, length, get_or, take, drop, replicate, Some, None, Ok, Err, Option, Result, sym, refl, ap, ◌∙◌, subst, ap₂, arith, length-append, take_at, drop_at}
-use lib.ListN.{length-replicate}
+use Rattle.std.proofs.Common.{◌≡◌, ℕ, zero, suc, ◌<◌, true, cond, ◌&&◌, eqb, ltb, List, [], ◌∷◌, ◌++◌, length, take, drop, Some, None, Ok, Option, Result, sym, refl, ap, ◌∙◌, arith, length-append, take_at, drop_at}
 use Rattle.std.proofs.lemmas.Bool.{and_from, le-leb, lt-ltb, cond-true}
 use Rattle.plans.specs.declared.eval.Damaged.{Damaged}
 use Rattle.runs.specs.declared.step.Phase.{Phase}
 use Rattle.runs.specs.declared.step.Phase.TheVariants.{Busy, Tasked, Asleep, Listens, Ended, Failed}
-use Rattle.runs.specs.declared.step.Place.{Place}
 use Rattle.pages.specs.declared.flow.Standing.{Standing}
 use Rattle.pages.specs.declared.flow.Standing.TheVariants.{Due, Out}
 use Rattle.pages.specs.declared.flow.Task.{Task}
 use Rattle.pages.specs.declared.flow.Flow.{Flow}
-use Rattle.pages.specs.Page.{fill, damaged, fair, agree, phase_of, phase_in, as_task, task_as, task_in, flow_of, with_task, with_phase, decode_of, zeros, place_words, tag_of, since_of, task_words, encode_of}
-use Rattle.pages.specs.Sound.{TaskOk, PhaseOk, Agree, Sound, DecodesEncoded, EncodesPage, Small, PhaseFits, StandingFits, TaskFits, FitsTask, Fits, EncodesSmall}
+use Rattle.pages.specs.Page.{fill, damaged, fair, agree, task_as, task_in, with_task, with_phase, decode_of, zeros, place_words, tag_of, since_of, task_words, encode_of}
+use Rattle.pages.specs.Sound.{TaskOk, PhaseOk, Agree, DecodesEncoded, EncodesPage, Small, PhaseFits, StandingFits, FitsTask, EncodesSmall}
 
 pub fair_ok : (t : Task) → TaskOk t → fair t ≡ true
 fair_ok t k = and_from _ _ (le-leb _ _ k.count) (and_from _ _ (le-leb _ _ k.first) (and_from _ _ (le-leb _ _ k.attempt) (and_from _ _ (le-leb _ _ k.tries) (and_from _ _ (le-leb _ _ k.pause) (lt-ltb _ _ k.kind)))))

@@ -18,7 +18,7 @@ use Rattle.runs.specs.declared.event.Task.{Task as Goal}
 use Rattle.runs.specs.Machine.{spent}
 use Rattle.runs.specs.Units.{statement_of, statement_at, deep_at}
 use Rattle.runs.specs.Steps.{Out as Ways, Lost, Went, gone_to, ended_as, waits_at, fails_to, with_value, worth_at, backs, with_all, does_w, busy, step_w, onward, moves_w}
-use Rattle.runs.specs.Events.{task_in, with_task as withGoal}
+use Rattle.runs.specs.Events.{task_in, with_task as with_goal}
 use Rattle.pages.specs.declared.flow.Task.{Task}
 use Rattle.pages.specs.declared.flow.Flow.{Flow}
 use Rattle.pages.specs.Page.{fill, damaged, fair, zeros}
@@ -340,8 +340,8 @@ goal_fits (Some (Return e)) h = tt
 goal_fits (Some (Fail way)) h = tt
 goal_fits (Some End) h = tt
 
-by_goal : (g : Option Goal) (f : ℕ → ℕ → Ways) → GoalFits g → ((next way : ℕ) → next < top → way < top → OutFits (f next way)) → OutFits (withGoal g f)
-unfolding withGoal
+by_goal : (g : Option Goal) (f : ℕ → ℕ → Ways) → GoalFits g → ((next way : ℕ) → next < top → way < top → OutFits (f next way)) → OutFits (with_goal g f)
+unfolding with_goal
 by_goal None f k h = tt
 by_goal (Some g) f k h = h g.next g.way k.0 k.1
 

@@ -1,8 +1,8 @@
 -- What a run keeps: 64 variables, a variable for a result, and a wish exactly where it waits for a task. Assumes nothing.
-use Rattle.std.proofs.Common.{◌≡◌, ℕ, zero, suc, ◌+◌, ◌<◌, ◌≤◌, Bool, true, false, cond, ◌&&◌, eqb, ltb, leb, List, [], ◌∷◌, length, get_or, drop, set, Some, None, Option, sym, refl, ap, ◌∙◌, subst, arith, length-set}
+use Rattle.std.proofs.Common.{◌≡◌, ℕ, zero, suc, ◌+◌, ◌<◌, ◌≤◌, Bool, true, false, cond, ◌&&◌, ltb, leb, List, [], ◌∷◌, length, drop, Some, None, Option, refl, ◌∙◌, arith, length-set}
 use Rattle.std.proofs.lemmas.Bool.{ltb-true, leb-true, and_parts}
-use Rattle.plans.specs.Plan.{Wish as Wished, capped}
-use Rattle.plans.specs.Eval.{Out as Run, Bad, Stop, run_e, One, no_value, one_value, one_of}
+use Rattle.plans.specs.Plan.{Wish as Wished}
+use Rattle.plans.specs.Eval.{Out as Run, Bad, Stop, run_e, One, no_value, one_value}
 use Rattle.runs.specs.declared.unit.Statement.{Statement}
 use Rattle.runs.specs.declared.unit.Statement.TheVariants.{Set, Do, Sleep, Hear, If, While, Guard, Go, Return, Fail, End}
 use Rattle.runs.specs.declared.step.Phase.{Phase}
@@ -10,7 +10,7 @@ use Rattle.runs.specs.declared.step.Phase.TheVariants.{Busy, Tasked, Asleep, Lis
 use Rattle.runs.specs.declared.step.Place.{Place}
 use Rattle.runs.specs.Machine.{spent}
 use Rattle.runs.specs.Units.{statement_at, deep_at}
-use Rattle.runs.specs.Steps.{Out as Ways, Lost, Went, gone_to, ended_as, waits_at, asked_into, fails_to, with_value, worth_at, backs, with_all, does_w, busy, step_w, onward, moves_w}
+use Rattle.runs.specs.Steps.{Out as Ways, Lost, Went, ended_as, fails_to, with_value, worth_at, backs, with_all, does_w, busy, step_w, onward, moves_w}
 use Rattle.pages.specs.Sound.{PhaseOk}
 
 -- a wish exactly where it waits for a task, of at most 16 arguments

@@ -1,31 +1,24 @@
 -- A run of a flow is the house's. Assumes nothing.
-use Rattle.std.proofs.Common.{◌≡◌, ℕ, zero, suc, ◌+◌, ◌-◌, ◌<◌, ◌≤◌, Bool, true, false, cond, ◌&&◌, eqb, ◌⊎◌, List, [], ◌∷◌, ◌++◌, length, get_or, take, drop, replicate, Some, None, Ok, Err, Option, Result, sym, refl, ap, ◌∙◌, subst, ap₂, inl, inr, arith, length-append, length-take-le, take-take}
-use lib.ListN.{length-replicate}
+use Rattle.std.proofs.Common.{◌≡◌, ℕ, zero, suc, ◌+◌, ◌-◌, ◌≤◌, List, [], ◌∷◌, ◌++◌, length, get_or, take, sym, refl, ap, ◌∙◌, subst, inl, arith, length-append, length-take-le, take-take}
 use lib.Seq.{take-append_seam}
 use Rattle.std.proofs.lemmas.Bool.{cond-true, cond-false, eq-eqb, ne_eqb}
-use Rattle.plans.specs.declared.eval.Damaged.{Damaged}
-use Rattle.plans.specs.Plan.{Flow as Meant, Wish as Wished, Moved, Block, Rest, Phase as MeantPhase, Busy as busyP, Tasked as taskedP, Asleep as asleepP, Listens as listensP, Ended as endedP, Failed as failedP, still, moves, block_ok, size_of}
+use Rattle.plans.specs.Plan.{Flow as Meant, Wish as Wished, Moved, Busy as busy_p, Tasked as tasked_p, still, moves}
 use Rattle.plans.specs.Eval.{look}
-use Rattle.plans.specs.Flat.{laid}
-use Rattle.flows.specs.House.{Task as Job, Due as dueJob, wished, step_of, given}
+use Rattle.flows.specs.House.{Due as due_job, wished, step_of, given}
 use Rattle.flows.specs.One.{One, settled_one, moved_one}
 use Rattle.runs.specs.declared.step.Phase.{Phase}
 use Rattle.runs.specs.declared.step.Phase.TheVariants.{Busy, Tasked, Asleep, Listens, Ended, Failed}
 use Rattle.runs.specs.declared.step.Place.{Place}
-use Rattle.runs.specs.Machine.{FlatFlow, Is, Follows}
+use Rattle.runs.specs.Machine.{FlatFlow, Is}
 use Rattle.runs.specs.Decode.{code_in, flat_at}
 use Rattle.runs.specs.Steps.{Out as Ways, Lost, Went, moves_w}
 use Rattle.runs.specs.Carried.{phase_in, flow_in, Meets}
 use Rattle.runs.proofs.Loops.{moves_on}
 use Rattle.runs.proofs.Stands.{begins_alike}
-use Rattle.pages.specs.declared.flow.Standing.{Standing}
-use Rattle.pages.specs.declared.flow.Standing.TheVariants.{Due, Out}
-use Rattle.pages.specs.declared.flow.Task.{Task}
-use Rattle.pages.specs.declared.flow.Flow.{Flow}
-use Rattle.pages.specs.Page.{fill, damaged, zeros}
-use Rattle.pages.specs.Sound.{TaskOk, PhaseOk, Agree, Sound}
+use Rattle.pages.specs.Page.{fill, zeros}
+use Rattle.pages.specs.Sound.{TaskOk, Agree}
 use Rattle.pages.specs.Events.{wish_task, task_from, settled, ran_on, first_vars, at_first, begun, step_in}
-use Rattle.pages.specs.Holds.{job_of, jobs_of, tasks_of, Holds, HeldBy, JobOk, TasksOk, new_of, alone, BeginsAs}
+use Rattle.pages.specs.Holds.{jobs_of, HeldBy, TasksOk, new_of, alone, BeginsAs}
 use Rattle.pages.proofs.Words.{drop_zeros}
 use Rattle.pages.proofs.Turns.{vars_filled}
 use Rattle.pages.proofs.Good.{Wants, Good, GoodOut, moves_good}
@@ -76,7 +69,7 @@ wants_few Failed w v ws k = k
 wished_jobs : (t i s : ℕ) (p : Phase) (w : List Wished) → Wants p w → wished t i s w ≡ jobs_of i s (task_from t w)
 unfolding wished task_from
 wished_jobs t i s p [] k = refl
-wished_jobs t i s p (w ∷ []) k = ap (λ (a : List ℕ). record { flow = i; step = s; kind = w.kind; args = a; attempt = 1; tries = w.tries; pause = w.pause; standing = dueJob t } ∷ []) (sym (fill_take w.args (wants_one p w k)))
+wished_jobs t i s p (w ∷ []) k = ap (λ (a : List ℕ). record { flow = i; step = s; kind = w.kind; args = a; attempt = 1; tries = w.tries; pause = w.pause; standing = due_job t } ∷ []) (sym (fill_take w.args (wants_one p w k)))
 wished_jobs t i s p (w ∷ v ∷ ws) k = absurd (wants_few p w v ws k)
 
 wish_ok : (t i s : ℕ) (w : Wished) → length w.args ≤ 16 → TasksOk (wished t i s (w ∷ [])) → TaskOk (wish_task t w)
@@ -101,7 +94,7 @@ agree_from t i s Failed (w ∷ ws) k h = k
 
 -- the bounds, where it waits for a task
 abbrev pub TaskedOk : One → Type 0
-TaskedOk o = (x : Meant) (k : ℕ) → o.flow ≡ x ∷ [] → x.phase ≡ taskedP k → TasksOk o.task
+TaskedOk o = (x : Meant) (k : ℕ) → o.flow ≡ x ∷ [] → x.phase ≡ tasked_p k → TasksOk o.task
 
 pub ran_held : (room : ℕ) (ws : List ℕ) (t : ℕ) (p : Place) (vs : List ℕ) (y : FlatFlow) (x z : Meant) → Good p vs [] → y.box ≡ [] → Is (code_in room ws) (flow_in ws p vs y) x → TaskedOk (moved_one t x (alone z)) → HeldBy room ws (ran_on room ws t p vs) y (moved_one t x (alone z))
 unfolding settled phase_in
@@ -167,7 +160,7 @@ begun_held room ws xs t h b y e ok fits empty size kept =
     ran_held room ws t at_first (first_vars xs) y (new_of b xs y) (new_of b xs y) (record { vars = first_long xs; into = omega arith; phase = tt; wants = tt }) empty is (λ x k f q. kept)
   where
     same : flat_at 0 (new_of b xs y) ≡ flow_in ws at_first (first_vars xs) y
-    same = λ i. record { id = y.id; key = y.key; phase = busyP; here = 0; vars = given_look xs h i; steps = 0; into = 0; box = sym empty i; size = sym size i }
+    same = λ i. record { id = y.id; key = y.key; phase = busy_p; here = 0; vars = given_look xs h i; steps = 0; into = 0; box = sym empty i; size = sym size i }
 
     is : Is (code_in room ws) (flow_in ws at_first (first_vars xs) y) (new_of b xs y)
     is = subst (λ (f : FlatFlow). Is (code_in room ws) f (new_of b xs y)) same (subst (λ (l : List ℕ). Is (code_in room l) (flat_at 0 (new_of b xs y)) (new_of b xs y)) (sym e) (begins_alike b room (new_of b xs y) ok fits refl refl))

@@ -1,30 +1,26 @@
 -- Each event on a flow with its task is the house's. Assumes nothing.
-use Rattle.std.proofs.Common.{◌≡◌, ℕ, zero, suc, ◌+◌, ◌<◌, ◌≤◌, Bool, true, false, cond, not, ◌&&◌, eqb, ltb, leb, List, [], ◌∷◌, ◌++◌, length, set, Some, None, Ok, Err, Option, Result, sym, refl, ap, ◌∙◌, subst, ap₂, arith, length-set}
-use Rattle.std.proofs.lemmas.Bool.{cond-true, cond-false, and_from, eq-eqb, lt-ltb}
+use Rattle.std.proofs.Common.{◌≡◌, ℕ, zero, suc, ◌<◌, Bool, true, false, cond, not, ◌&&◌, eqb, ltb, List, [], ◌∷◌, length, set, Some, None, Ok, Err, Option, Result, sym, refl, ap, ◌∙◌, subst, ap₂, arith, length-set}
+use Rattle.std.proofs.lemmas.Bool.{cond-true, and_from, eq-eqb, lt-ltb}
 use Rattle.plans.specs.declared.eval.Damaged.{Damaged}
-use Rattle.plans.specs.Plan.{Flow as Meant, Phase as MeantPhase, Busy as busyP, Tasked as taskedP, Failed as failedP, at, goes_on, broken, heard}
-use Rattle.flows.specs.House.{Task as Job, Standing as Stands, change, keep, is_task, again as againJob, is_late}
-use Rattle.flows.specs.One.{One, with_task as withJobs, moved_one, works_one, fails_one, wrong_one, late_one, late_all, woken_one, woken_all, ticked_one}
+use Rattle.plans.specs.Plan.{Flow as Meant, at, goes_on, broken}
+use Rattle.flows.specs.House.{Task as Job, change, keep, is_task, again as again_job}
+use Rattle.flows.specs.One.{One, with_task as with_jobs, moved_one, works_one, fails_one, wrong_one}
 use Rattle.runs.specs.declared.step.Phase.{Phase}
 use Rattle.runs.specs.declared.step.Phase.TheVariants.{Busy, Tasked, Asleep, Listens, Ended, Failed}
 use Rattle.runs.specs.declared.step.Place.{Place}
 use Rattle.runs.specs.declared.event.Task.{Task as Found}
-use Rattle.runs.specs.Alike.{is_calm}
 use Rattle.runs.specs.Machine.{FlatFlow, Is}
 use Rattle.runs.specs.Decode.{code_in}
 use Rattle.runs.specs.Units.{statement_at}
-use Rattle.runs.specs.Steps.{Out as Ways, Lost, Went, gone_to, fails_to}
+use Rattle.runs.specs.Steps.{Out as Ways, Went, gone_to, fails_to}
 use Rattle.runs.specs.Carried.{phase_in, flow_in}
-use Rattle.runs.specs.Events.{task_in, with_task as found, by_task}
-use Rattle.runs.proofs.Tidings.{wakes_in, heard_in, result_in, broken_in}
-use Rattle.pages.specs.declared.flow.Standing.{Standing}
-use Rattle.pages.specs.declared.flow.Standing.TheVariants.{Due, Out}
+use Rattle.runs.specs.Events.{task_in, with_task as found}
+use Rattle.runs.proofs.Tidings.{result_in, broken_in}
 use Rattle.pages.specs.declared.flow.Task.{Task}
 use Rattle.pages.specs.declared.flow.Flow.{Flow}
-use Rattle.pages.specs.Page.{damaged, fair}
-use Rattle.pages.specs.Sound.{TaskOk, PhaseOk, Agree, Sound}
-use Rattle.pages.specs.Events.{ran_on, then_runs, worked_on, failed_on, again, with_task, wrong_task, wrong_on, late_for, late_task, wakes_at, wakes_on, then_wakes, ticked_on, stirs_at, stirring, step_in}
-use Rattle.pages.specs.Holds.{standing_of, job_of, jobs_of, tasks_of, Holds, HeldBy, TasksOk, alone, WorksAs, WrongAs, TicksAs, StaysAs}
+use Rattle.pages.specs.Sound.{TaskOk, Agree, Sound}
+use Rattle.pages.specs.Events.{then_runs, worked_on, failed_on, again, with_task, wrong_task, wrong_on, step_in}
+use Rattle.pages.specs.Holds.{job_of, jobs_of, Holds, HeldBy, TasksOk, alone, WorksAs, WrongAs}
 use Rattle.pages.proofs.Codes.{fair_ok, agreed_task}
 use Rattle.pages.proofs.Good.{Good}
 use Rattle.pages.proofs.Held.{phase_is, TaskedOk, ran_held}
@@ -73,7 +69,7 @@ none_in f p e b s = free_none p f.task b (subst (λ (q : Phase). Agree q f.task)
 pub worked_held : (room : ℕ) (ws : List ℕ) (t v : ℕ) (f : Flow) → WorksAs room ws t v f (worked_on room ws t v f)
 unfolding worked_on works_one then_runs found
 worked_held room ws t v f k y o e h ok =
-    subst (λ (q : One). HeldBy room ws (worked_on room ws t v f) y (works_one t v q.flow (withJobs [] q))) (sym eqn)
+    subst (λ (q : One). HeldBy room ws (worked_on room ws t v f) y (works_one t v q.flow (with_jobs [] q))) (sym eqn)
     (subst (λ (r : Result Flow Damaged). HeldBy room ws r y (moved_one t x' (alone x))) (sym (cond-true _ _ _ (lt-ltb f.place.into 64 h.sound.into))) (go (task_in (statement_at ws f.place.here)) refl))
   where
     x : Meant
@@ -89,7 +85,7 @@ worked_held room ws t v f k y o e h ok =
     eqn = holds_as room ws f y o f.task refl h
 
     kept : TaskedOk (moved_one t x' (alone x))
-    kept = λ z n a b. subst (λ (q : One). TasksOk (works_one t v q.flow (withJobs [] q)).task) eqn ok
+    kept = λ z n a b. subst (λ (q : One). TasksOk (works_one t v q.flow (with_jobs [] q)).task) eqn ok
 
     F : ℕ → ℕ → Ways
     F = λ next way. Went (gone_to next f.place) vs []
@@ -175,13 +171,13 @@ wrong_at room ws t f y o u e h ok =
     left = ap (wrong_task room ws t f) e ∙ cond-true _ _ _ (fair_ok u good)
 
     A : One
-    A = record { flow = x ∷ []; task = againJob t j ∷ [] }
+    A = record { flow = x ∷ []; task = again_job t j ∷ [] }
 
     B : One
     B = moved_one t (broken x.frames x) (alone x)
 
     right : wrong_one t j W ≡ cond b A B
-    right = ap₂ (λ (c d : List Job). cond b (withJobs c W) (fails_one t (x ∷ []) (withJobs d W))) (change_one (againJob t) j) (keep_none j)
+    right = ap₂ (λ (c d : List Job). cond b (with_jobs c W) (fails_one t (x ∷ []) (with_jobs d W))) (change_one (again_job t) j) (keep_none j)
 
     go : (c : Bool) → b ≡ c → TaskedOk (cond c A B) → HeldBy room ws (cond c (Ok (with_task (Some (again t u)) f)) (failed_on room ws t f)) y (cond c A B)
     go true q kept =

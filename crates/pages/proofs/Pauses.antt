@@ -1,5 +1,5 @@
 -- A pause that doubles. Assumes nothing.
-use Rattle.std.proofs.Common.{◌≡◌, ℕ, zero, suc, ◌+◌, ◌-◌, ◌*◌, ◌%◌, ◌^◌, ◌<◌, ◌≤◌, sym, refl, ap, ◌∙◌, subst, mul_assoc, mul_comm, pow-suc, mul-one, arith, shl_lt, shl_exact}
+use Rattle.std.proofs.Common.{◌≡◌, ℕ, zero, suc, ◌+◌, ◌-◌, ◌*◌, ◌%◌, ◌^◌, ◌<◌, ◌≤◌, sym, ap, ◌∙◌, mul_assoc, mul_comm, pow-suc, mul-one, arith, shl_lt, shl_exact}
 use lib.Pow.{pow-lt}
 use Rattle.flows.specs.House.{doubled, less1}
 

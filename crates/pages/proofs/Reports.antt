@@ -1,20 +1,18 @@
 -- What the house does at a report, by what was found. Assumes nothing.
-use Rattle.std.proofs.Common.{◌≡◌, ℕ, ◌%◌, ◌<◌, ◌≤◌, Bool, true, false, cond, not, ◌&&◌, eqb, List, [], ◌∷◌, Some, None, Option, sym, refl, ap, ◌∙◌, subst, ap₂, arith}
+use Rattle.std.proofs.Common.{◌≡◌, ℕ, ◌%◌, Bool, true, false, cond, not, ◌&&◌, eqb, List, [], ◌∷◌, Some, None, Option, sym, refl, ap, ◌∙◌, subst, arith}
 use Rattle.std.proofs.lemmas.Bool.{cond-true, cond-false, and_from, and_left, and_right, eq-eqb, eqb-true}
 use Rattle.plans.specs.Plan.{top}
-use Rattle.flows.specs.House.{Task as Job, find, keep, is_task, is_out, the_same}
-use Rattle.flows.specs.One.{One, with_task as withJobs, works_one, wrong_one}
-use Rattle.flows.specs.Summed.{stands_one, longer_one, reports_one}
-use Rattle.runs.specs.declared.step.Phase.{Phase}
+use Rattle.flows.specs.House.{Task as Job, find, keep, is_task, the_same}
+use Rattle.flows.specs.One.{One, with_task as with_jobs, works_one, wrong_one}
+use Rattle.flows.specs.Summed.{longer_one, reports_one}
 use Rattle.runs.specs.declared.step.Phase.TheVariants.{Tasked}
 use Rattle.runs.specs.Machine.{FlatFlow}
 use Rattle.pages.specs.declared.flow.Task.{Task}
 use Rattle.pages.specs.declared.flow.Flow.{Flow}
-use Rattle.pages.specs.declared.flow.Tried.{Tried}
 use Rattle.pages.specs.declared.flow.Tried.TheVariants as tries
 use Rattle.pages.specs.Sound.{TaskOk, Agree}
 use Rattle.pages.specs.Events.{step_in, out_now, tried_task}
-use Rattle.pages.specs.Holds.{standing_of, job_of, jobs_of, Holds, TasksOk}
+use Rattle.pages.specs.Holds.{job_of, jobs_of, Holds, TasksOk}
 use Rattle.pages.specs.Reports.{tried_of, TryOut, TryStays, Tries}
 use Rattle.pages.proofs.Codes.{agreed_task}
 use Rattle.pages.proofs.Means.{tasked_of, keep_none}
@@ -58,11 +56,11 @@ module _ (room : ℕ) (ws : List ℕ) (f : Flow) (y : FlatFlow) (o : One) (s a :
   unfolding job k
   same u c e = ap (λ (d : Bool). eqb a u.attempt && d) (sym (out_is u.standing)) ∙ e
 
-  reports_same : (u : Task) → f.task ≡ Some u → the_same a (job u) ≡ true → (t v : ℕ) (well : Bool) → reports_one t a well v (job u ∷ []) o ≡ cond well (works_one t (v % top) o.flow (withJobs [] o)) (wrong_one t (job u) o)
+  reports_same : (u : Task) → f.task ≡ Some u → the_same a (job u) ≡ true → (t v : ℕ) (well : Bool) → reports_one t a well v (job u ∷ []) o ≡ cond well (works_one t (v % top) o.flow (with_jobs [] o)) (wrong_one t (job u) o)
   unfolding reports_one job k
   reports_same u e b t v well =
       cond-true _ _ _ b
-      ∙ ap (λ (l : List Job). cond well (works_one t (v % top) o.flow (withJobs l o)) (wrong_one t (job u) o)) (ap (keep (λ (w : Job). not (is_task y.id (step_in f.place.phase) w))) (jobs (Some u) e) ∙ keep_none (job u))
+      ∙ ap (λ (l : List Job). cond well (works_one t (v % top) o.flow (with_jobs l o)) (wrong_one t (job u) o)) (ap (keep (λ (w : Job). not (is_task y.id (step_in f.place.phase) w))) (jobs (Some u) e) ∙ keep_none (job u))
 
   out_at : (m : Option Task) → f.task ≡ m → tried_of s a f ≡ tries.Out → TryOut f y o s a
   unfolding k longer_one job

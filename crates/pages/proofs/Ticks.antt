@@ -1,34 +1,30 @@
 -- What time does to a flow with its task is what it does to the house. Assumes nothing.
-use Rattle.std.proofs.Common.{◌≡◌, ℕ, zero, suc, ◌+◌, ◌<◌, ◌≤◌, Bool, true, false, cond, not, ◌&&◌, eqb, ltb, leb, List, [], ◌∷◌, ◌++◌, length, set, Some, None, Ok, Err, Option, Result, sym, refl, ap, ◌∙◌, subst, ap₂, arith, length-set}
-use Rattle.std.proofs.lemmas.Bool.{cond-true, cond-false, and_from, eq-eqb, lt-ltb}
+use Rattle.std.proofs.Common.{◌≡◌, ℕ, Bool, true, false, cond, ◌&&◌, ltb, leb, List, [], ◌∷◌, length, set, Some, None, Ok, Err, Option, Result, sym, refl, ap, ◌∙◌, subst, arith, length-set}
+use Rattle.std.proofs.lemmas.Bool.{cond-true, cond-false, and_from, lt-ltb}
 use Rattle.plans.specs.declared.eval.Damaged.{Damaged}
-use Rattle.plans.specs.Plan.{Flow as Meant, Phase as MeantPhase, Busy as busyP, Tasked as taskedP, Failed as failedP, at, goes_on, broken, heard}
-use Rattle.flows.specs.House.{Task as Job, Standing as Stands, change, keep, is_task, again as againJob, is_late}
-use Rattle.flows.specs.One.{One, with_task as withJobs, moved_one, works_one, fails_one, wrong_one, late_one, late_all, woken_one, woken_all, ticked_one}
+use Rattle.plans.specs.Plan.{Flow as Meant, Phase as MeantPhase, Tasked as tasked_p, goes_on, heard}
+use Rattle.flows.specs.House.{Task as Job, is_late}
+use Rattle.flows.specs.One.{One, moved_one, wrong_one, late_all, woken_one, woken_all, ticked_one}
 use Rattle.runs.specs.declared.step.Phase.{Phase}
 use Rattle.runs.specs.declared.step.Phase.TheVariants.{Busy, Tasked, Asleep, Listens, Ended, Failed}
 use Rattle.runs.specs.declared.step.Place.{Place}
-use Rattle.runs.specs.declared.event.Task.{Task as Found}
 use Rattle.runs.specs.Alike.{is_calm}
 use Rattle.runs.specs.Machine.{FlatFlow, Is}
 use Rattle.runs.specs.Decode.{code_in}
-use Rattle.runs.specs.Units.{statement_at}
-use Rattle.runs.specs.Steps.{Out as Ways, Lost, Went, gone_to, fails_to}
+use Rattle.runs.specs.Steps.{gone_to}
 use Rattle.runs.specs.Carried.{phase_in, flow_in}
-use Rattle.runs.specs.Events.{task_in, with_task as found, by_task}
-use Rattle.runs.proofs.Tidings.{wakes_in, heard_in, result_in, broken_in}
+use Rattle.runs.proofs.Tidings.{wakes_in, heard_in}
 use Rattle.pages.specs.declared.flow.Standing.{Standing}
 use Rattle.pages.specs.declared.flow.Standing.TheVariants.{Due, Out}
 use Rattle.pages.specs.declared.flow.Task.{Task}
 use Rattle.pages.specs.declared.flow.Flow.{Flow}
-use Rattle.pages.specs.Page.{damaged, fair}
-use Rattle.pages.specs.Sound.{TaskOk, PhaseOk, Agree, Sound}
-use Rattle.pages.specs.Events.{ran_on, then_runs, worked_on, failed_on, again, with_task, wrong_task, wrong_on, late_for, late_task, wakes_at, wakes_on, then_wakes, ticked_on, stirs_at, stirring, step_in}
-use Rattle.pages.specs.Holds.{standing_of, job_of, jobs_of, tasks_of, Holds, HeldBy, TasksOk, alone, WorksAs, WrongAs, TicksAs, StaysAs}
-use Rattle.pages.proofs.Codes.{fair_ok, agreed_task}
-use Rattle.pages.proofs.Good.{Good, Wants}
+use Rattle.pages.specs.Page.{damaged}
+use Rattle.pages.specs.Sound.{PhaseOk}
+use Rattle.pages.specs.Events.{ran_on, wrong_on, late_for, late_task, wakes_at, wakes_on, then_wakes, ticked_on, stirs_at, stirring, step_in}
+use Rattle.pages.specs.Holds.{standing_of, job_of, jobs_of, Holds, HeldBy, TasksOk, alone, TicksAs, StaysAs}
+use Rattle.pages.proofs.Good.{Wants}
 use Rattle.pages.proofs.Held.{phase_is, TaskedOk, ran_held}
-use Rattle.pages.proofs.Means.{pair, holds_as, held_pair, tasked_of, none_in, is_free, wrong_at}
+use Rattle.pages.proofs.Means.{pair, holds_as, held_pair, none_in, is_free, wrong_at}
 
 -- waking -------------------------------------------------------------------------
 
@@ -104,7 +100,7 @@ wakes_held room ws t f y o h ok = subst (λ (q : One). HeldBy room ws (wakes_on 
     whole = ap (λ (q : One). woken_all t q.flow q) (holds_as room ws f y o f.task refl h) ∙ ap (λ (q : MeantPhase). woken_one t q h.x W) (phase_is room ws f.place f.vars y h.x h.is)
 
 -- who waits for a task does not wake
-tasked_rests : (t : ℕ) (o : One) (x : Meant) (k : ℕ) → o.flow ≡ x ∷ [] → x.phase ≡ taskedP k → woken_all t o.flow o ≡ o
+tasked_rests : (t : ℕ) (o : One) (x : Meant) (k : ℕ) → o.flow ≡ x ∷ [] → x.phase ≡ tasked_p k → woken_all t o.flow o ≡ o
 unfolding woken_all woken_one
 tasked_rests t o x k e q = ap (λ (l : List Meant). woken_all t l o) e ∙ ap (λ (p : MeantPhase). woken_one t p x o) q
 

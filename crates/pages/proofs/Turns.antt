@@ -1,19 +1,17 @@
 -- What the events compute, as their equations have it. Assumes nothing.
-use Rattle.std.proofs.Common.{◌≡◌, ℕ, zero, suc, ◌+◌, ◌-◌, ◌<◌, ◌≤◌, Bool, true, false, cond, ◌&&◌, eqb, ltb, leb, ◌⊎◌, List, [], ◌∷◌, ◌++◌, length, get_or, take, drop, set, replicate, Some, None, Ok, Err, Option, Result, sym, refl, ap, ◌∙◌, subst, ap₂, inl, inr, arith}
+use Rattle.std.proofs.Common.{◌≡◌, ℕ, ◌+◌, ◌-◌, ◌<◌, ◌≤◌, true, false, ◌&&◌, ltb, ◌⊎◌, List, [], ◌++◌, length, take, drop, set, Some, None, Ok, Err, Option, Result, sym, refl, ap, ◌∙◌, inl, inr, arith}
 use lib.Seq.{take-append-add}
-use Rattle.std.proofs.lemmas.Bool.{cond-true, cond-false, and_left, and_right, and_from, le-ltb, lt-ltb, le-leb, lt-leb}
+use Rattle.std.proofs.lemmas.Bool.{cond-true, cond-false, and_left, and_right, le-ltb, lt-ltb}
 use Rattle.plans.specs.declared.eval.Damaged.{Damaged}
-use Rattle.runs.specs.declared.unit.Statement.{Statement}
 use Rattle.runs.specs.declared.step.Phase.{Phase}
-use Rattle.runs.specs.declared.step.Phase.TheVariants.{Busy, Tasked, Asleep, Listens, Ended, Failed}
 use Rattle.runs.specs.declared.step.Place.{Place}
 use Rattle.runs.specs.declared.event.Task.{Task as Found}
-use Rattle.runs.specs.Steps.{Out as Ways, Lost, Went, gone_to, fails_to, moves_w}
+use Rattle.runs.specs.Steps.{Out as Ways, Lost, Went, gone_to, fails_to}
 use Rattle.runs.specs.Units.{statement_at}
 use Rattle.runs.specs.Events.{task_in, with_task as found, by_task}
 use Rattle.pages.specs.declared.flow.Task.{Task}
 use Rattle.pages.specs.declared.flow.Flow.{Flow}
-use Rattle.pages.specs.Page.{fill, damaged, fair, zeros}
+use Rattle.pages.specs.Page.{damaged, fair, zeros}
 use Rattle.pages.specs.Events.{ran_on, first_vars, then_runs, worked_on, failed_on, again, with_task, wrong_task, wrong_on, late_task, wakes_at, wakes_on, then_wakes, ticked_on}
 use Rattle.pages.proofs.Words.{take_zeros, drop_zeros}
 

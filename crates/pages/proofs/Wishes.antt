@@ -1,22 +1,15 @@
 -- A wish as a task, and a run as a flow. Assumes nothing.
-use Rattle.std.proofs.Common.{◌≡◌, ℕ, zero, suc, ◌+◌, ◌-◌, ◌<◌, ◌≤◌, Bool, true, false, cond, ltb, List, [], ◌∷◌, ◌++◌, length, get_or, take, drop, replicate, Some, None, Ok, Err, Option, Result, sym, refl, ap, ◌∙◌, subst, ap₂, arith, length-append, length-take, length-take-le, take_all, take-take}
-use lib.ListN.{length-replicate}
-use lib.Seq.{take-length, take-append_seam}
+use Rattle.std.proofs.Common.{◌≡◌, ℕ, ◌<◌, ◌≤◌, Bool, true, false, cond, ltb, List, length, take, Some, None, Ok, Option, sym, refl, ap, ◌∙◌, ap₂, arith, length-take-le, take_all}
 use Rattle.std.proofs.lemmas.Bool.{ltb-true, ltb-false}
-use Rattle.plans.specs.declared.eval.Damaged.{Damaged}
-use Rattle.plans.specs.Plan.{Wish as Wished}
 use Rattle.runs.specs.declared.step.Place.{Place}
 use Rattle.runs.specs.declared.step.Wish.{Wish}
 use Rattle.runs.specs.declared.step.Moved.{Moved}
-use Rattle.runs.specs.declared.flow.Ran.{Ran}
-use Rattle.runs.specs.Steps.{Out as Ways, Lost, Went, moves_w, wishes}
-use Rattle.runs.specs.Runs.{as_out, RanTo}
-use Rattle.pages.specs.declared.flow.Standing.{Standing}
-use Rattle.pages.specs.declared.flow.Standing.TheVariants.{Due, Out}
+use Rattle.runs.specs.Steps.{Lost, moves_w, wishes}
+use Rattle.runs.specs.Runs.{as_out}
+use Rattle.pages.specs.declared.flow.Standing.TheVariants.{Due}
 use Rattle.pages.specs.declared.flow.Task.{Task}
-use Rattle.pages.specs.declared.flow.Flow.{Flow}
 use Rattle.pages.specs.Page.{fill, damaged}
-use Rattle.pages.specs.Events.{wish_task, task_from, settled, ran_on}
+use Rattle.pages.specs.Events.{task_from, settled, ran_on}
 
 few : (xs : List ℕ) (k n : ℕ) → length xs ≡ 16 → n ≡ cond (ltb k 16) k 16 → (take n xs ≡ take k xs) × (n ≡ length (take k xs))
 few xs k n l e = go (ltb k 16) refl

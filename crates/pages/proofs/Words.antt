@@ -1,17 +1,11 @@
 -- What was written is read. Assumes nothing.
-use Rattle.std.proofs.Common.{◌≡◌, ℕ, zero, suc, ◌+◌, ◌-◌, ◌<◌, ◌≤◌, Bool, true, false, cond, ◌&&◌, ltb, List, [], ◌∷◌, ◌++◌, length, get_or, take, drop, replicate, Some, None, Ok, Err, Option, Result, sym, refl, ap, ◌∙◌, subst, ap₂, append_assoc, append-nil, arith, length-append, length-drop, drop_of_length-le, length-take, length-take-le, take_all, take_at, drop_at}
-use lib.ListN.{length-replicate}
-use lib.Seq.{take-append_seam, drop-append_seam, take-append-add}
+use Rattle.std.proofs.Common.{◌≡◌, ℕ, zero, suc, ◌+◌, ◌-◌, ◌≤◌, cond, ◌&&◌, ltb, List, [], ◌∷◌, ◌++◌, length, get_or, take, drop, replicate, Ok, Err, Option, sym, refl, ap, ◌∙◌, ap₂, append_assoc, append-nil, arith, length-append, length-drop, drop_of_length-le, take_at, drop_at}
+use lib.Seq.{take-append-add}
 use borrow.Rule.Slice.PartMut.{put_mid, post_of}
 use Rattle.plans.specs.declared.eval.Damaged.{Damaged}
 use Rattle.runs.specs.declared.step.Phase.{Phase}
-use Rattle.runs.specs.declared.step.Phase.TheVariants.{Busy, Tasked, Asleep, Listens, Ended, Failed}
-use Rattle.runs.specs.declared.step.Place.{Place}
-use Rattle.pages.specs.declared.flow.Standing.{Standing}
-use Rattle.pages.specs.declared.flow.Standing.TheVariants.{Due, Out}
 use Rattle.pages.specs.declared.flow.Task.{Task}
-use Rattle.pages.specs.declared.flow.Flow.{Flow}
-use Rattle.pages.specs.Page.{fill, damaged, fair, agree, phase_of, phase_in, as_task, task_as, task_in, flow_of, with_task, with_phase, decode_of, zeros, place_words, task_words, encode_of}
+use Rattle.pages.specs.Page.{fill, damaged, agree, phase_in, task_in, flow_of, with_task, with_phase, decode_of, zeros}
 
 pub take_zeros : (k n : ℕ) → k ≤ n → take k (replicate {A = ℕ} n 0) ≡ replicate k 0
 take_zeros zero n h = refl

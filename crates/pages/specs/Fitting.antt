@@ -2,7 +2,7 @@
 use Rattle.std.specs.Prelude.{◌≡◌, ℕ, ◌<◌, ◌≤◌, List, length, Ok}
 use Rattle.pages.specs.declared.flow.Flow.{Flow}
 use Rattle.pages.specs.Sound.{Small, Fits}
-use Rattle.pages.specs.Events.{begun as begunOn, worked_on, wrong_on, ticked_on, handed_out, cancelled_of}
+use Rattle.pages.specs.Events.{begun as begun_on, worked_on, wrong_on, ticked_on, handed_out, cancelled_of}
 
 -- a plan of at most 16,384 words, and a time of at most 2 to the 62
 pub record Fitting : Type 0 where
@@ -11,4 +11,4 @@ pub record Fitting : Type 0 where
   pub worked : (room : ℕ) (ws : List ℕ) (t v : ℕ) (f g : Flow) → Small ws → length ws ≤ 16384 → t ≤ 4611686018427387904 → v < 18446744073709551616 → Fits f → worked_on room ws t v f ≡ Ok g → Fits g
   pub wrong : (room : ℕ) (ws : List ℕ) (t : ℕ) (f g : Flow) → Small ws → length ws ≤ 16384 → t ≤ 4611686018427387904 → Fits f → wrong_on room ws t f ≡ Ok g → Fits g
   pub ticked : (room : ℕ) (ws : List ℕ) (t : ℕ) (f g : Flow) → Small ws → length ws ≤ 16384 → t ≤ 4611686018427387904 → Fits f → ticked_on room ws t f ≡ Ok g → Fits g
-  pub begun : (room : ℕ) (ws xs : List ℕ) (t : ℕ) (g : Flow) → Small ws → length ws ≤ 16384 → t ≤ 4611686018427387904 → Small xs → begunOn room ws xs t ≡ Ok g → Fits g
+  pub begun : (room : ℕ) (ws xs : List ℕ) (t : ℕ) (g : Flow) → Small ws → length ws ≤ 16384 → t ≤ 4611686018427387904 → Small xs → begun_on room ws xs t ≡ Ok g → Fits g

@@ -1,9 +1,9 @@
 -- A flow with its task is one flow of the house with its task, and each event on it is the house's. Assumes nothing.
 use Rattle.std.specs.Prelude.{◌≡◌, ℕ, ◌<◌, ◌≤◌, Bool, true, false, cond, List, [], ◌∷◌, take, Some, None, Ok, Err, Option, Result}
 use Rattle.plans.specs.declared.eval.Damaged.{Damaged}
-use Rattle.plans.specs.Plan.{Flow as Meant, Block, Rest, Busy as busyP, block_ok, size_of}
+use Rattle.plans.specs.Plan.{Flow as Meant, Block, Rest, Busy as busy_p, block_ok, size_of}
 use Rattle.plans.specs.Flat.{laid}
-use Rattle.flows.specs.House.{Task as Job, Standing as Stands, Due as dueJob, Out as outJob, given, find, is_task, the_same, is_over, wanted, due_at}
+use Rattle.flows.specs.House.{Task as Job, Standing as Stands, Due as due_job, Out as out_job, given, find, is_task, the_same, is_over, wanted, due_at}
 use Rattle.flows.specs.One.{One, with_task, moved_one, works_one, wrong_one, ticked_one}
 use Rattle.flows.specs.Summed.{stands_one, cancels_one}
 use Rattle.runs.specs.declared.step.Phase.{Phase}
@@ -21,8 +21,8 @@ use Rattle.pages.specs.Sound.{Sound}
 use Rattle.pages.specs.Events.{step_in, ticked_on}
 
 abbrev pub standing_of : Standing → Stands
-standing_of (Due a) = dueJob a
-standing_of (Out u) = outJob u
+standing_of (Due a) = due_job a
+standing_of (Out u) = out_job u
 
 -- the task of a flow, at one of its steps
 abbrev pub job_of : (id step : ℕ) → Task → Job
@@ -65,7 +65,7 @@ TasksOk (t ∷ ts) = JobOk t × TasksOk ts
 
 -- a new flow, of which y says which it is
 abbrev pub new_of : Block → List ℕ → FlatFlow → Meant
-new_of b xs y = record { id = y.id; key = y.key; phase = busyP; frames = Rest b ∷ []; vars = given 0 xs; steps = 0; into = 0; box = []; size = size_of b }
+new_of b xs y = record { id = y.id; key = y.key; phase = busy_p; frames = Rest b ∷ []; vars = given 0 xs; steps = 0; into = 0; box = []; size = size_of b }
 
 abbrev pub alone : Meant → One
 alone x = record { flow = x ∷ []; task = [] }

@@ -1,5 +1,5 @@
 -- What the house does at a report, or at a wish for more time, by what `tried` finds. Assumes nothing.
-use Rattle.std.specs.Prelude.{◌≡◌, ℕ, ◌%◌, Bool, true, false, cond, List, [], ◌∷◌, ◌==◌}
+use Rattle.std.specs.Prelude.{◌≡◌, ℕ, ◌%◌, Bool, false, cond, List, [], ◌∷◌, ◌==◌}
 use Rattle.plans.specs.Plan.{top}
 use Rattle.flows.specs.House.{Task as Job, find, is_task}
 use Rattle.flows.specs.One.{One, with_task, works_one, wrong_one}

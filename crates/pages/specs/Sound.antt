@@ -1,8 +1,7 @@
 -- What holds of each flow that a page may say, and what was written is read. Assumes nothing.
-use Rattle.std.specs.Prelude.{◌≡◌, ℕ, ◌<◌, ◌≤◌, List, [], ◌∷◌, length, take, Some, None, Ok, Err, Option}
+use Rattle.std.specs.Prelude.{◌≡◌, ℕ, ◌<◌, ◌≤◌, List, [], ◌∷◌, length, take, Some, None, Ok, Option}
 use Rattle.runs.specs.declared.step.Phase.{Phase}
 use Rattle.runs.specs.declared.step.Phase.TheVariants.{Busy, Tasked, Asleep, Listens, Ended, Failed}
-use Rattle.runs.specs.declared.step.Place.{Place}
 use Rattle.pages.specs.declared.flow.Standing.{Standing}
 use Rattle.pages.specs.declared.flow.Standing.TheVariants.{Due, Out}
 use Rattle.pages.specs.declared.flow.Task.{Task}

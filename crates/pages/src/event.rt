@@ -1,7 +1,7 @@
 // What an event does to a flow with its task.
 ghost use Rattle.std.specs.Prelude.{◌≡◌, ◌≤◌, length, if◌then◌else◌, nat_lt};
 ghost use Rattle.runs.specs.Steps.{wishes};
-ghost use Rattle.pages.specs.Events.{task_from, ran_on, first_vars, begun, worked_on, again as nextTry, wrong_on, wakes_on, ticked_on};
+ghost use Rattle.pages.specs.Events.{task_from, ran_on, first_vars, begun, worked_on, again as next_try, wrong_on, wakes_on, ticked_on};
 ghost use Rattle.pages.specs.Holds.{BeginsAs, WorksAs, WrongAs, TicksAs};
 
 use crate::flow::{Flow, Standing, Task};
@@ -113,7 +113,7 @@ pub fn worked(
 fn again(mut task: Task, time: u64) -> Task
     requires clock { time ≤ 4611686018427387904 }
     requires low { (1 ≤ task.attempt) × (task.attempt ≤ 32) × (task.pause ≤ 86400000) }
-    ensures { result ≡ nextTry time task }
+    ensures { result ≡ next_try time task }
 {
     let pause = task.pause << (task.attempt - 1);
     task.attempt += 1;

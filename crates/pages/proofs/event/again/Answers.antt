@@ -1,11 +1,10 @@
-use Rattle.std.proofs.Common.{◌≡◌, ℕ, ◌+◌, ◌-◌, ◌*◌, ◌%◌, ◌^◌, ◌<◌, ap, arith}
-use mir.Facts.{Fits-lt}
+use Rattle.std.proofs.Common.{ℕ, ◌+◌, ap, arith}
 use Rattle.pages.specs.declared.flow.Standing.TheVariants.{Due}
 use Rattle.pages.proofs.Pauses.{pauses}
 use Rattle.pages.proofs.event.again.Goals as goal
 
-pub overflow-add-task-2 : goal.overflow-add-task-2
-overflow-add-task-2 c =
+pub overflow_add-task-2 : goal.overflow_add-task-2
+overflow_add-task-2 c =
     let q = pauses c.args.task.attempt c.args.task.pause c.requires.low.0 c.requires.low.1 c.requires.low.2 in
     omega (arith, q.0, q.1)
 

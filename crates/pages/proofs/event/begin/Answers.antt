@@ -1,4 +1,4 @@
-use Rattle.std.proofs.Common.{◌≡◌, ℕ, List, length, ap, ◌∙◌}
+use Rattle.std.proofs.Common.{ℕ, List, length, ap, ◌∙◌}
 use Rattle.pages.specs.Events.{ran_on, at_first, begun}
 use Rattle.pages.specs.Holds.{BeginsAs}
 use Rattle.pages.proofs.Given.{given_as}
@@ -6,4 +6,4 @@ use Rattle.pages.proofs.Held.{begun_held}
 use Rattle.pages.proofs.event.begin.Goals as goal
 
 pub returns : goal.returns
-returns c = let h = c.goes-on.ensures ∙ ap (λ (vs : List ℕ). ran_on (length c.args.stack.now) c.args.plan.now c.args.time at_first vs) c.first-vars.ensures in record { flat = h; meant = given_as (BeginsAs (length c.args.stack.now) c.args.plan.now c.args.given.now c.args.time) (begun (length c.args.stack.now) c.args.plan.now c.args.given.now c.args.time) _ (begun_held (length c.args.stack.now) c.args.plan.now c.args.given.now c.args.time c.requires.few) h }
+returns c = let h = c.goes_on.ensures ∙ ap (λ (vs : List ℕ). ran_on (length c.args.stack.now) c.args.plan.now c.args.time at_first vs) c.first_vars.ensures in record { flat = h; meant = given_as (BeginsAs (length c.args.stack.now) c.args.plan.now c.args.given.now c.args.time) (begun (length c.args.stack.now) c.args.plan.now c.args.given.now c.args.time) _ (begun_held (length c.args.stack.now) c.args.plan.now c.args.given.now c.args.time c.requires.few) h }

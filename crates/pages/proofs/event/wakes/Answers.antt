@@ -1,15 +1,14 @@
-use Rattle.std.proofs.Common.{◌≡◌, ℕ, cond, ◌&&◌, ltb, leb, List, length, set, Ok, Err, sym, refl, ap, ◌∙◌, ap₂, arith}
-use Rattle.std.proofs.lemmas.Bool.{cond-true, cond-false, and_left, and_right, and_from, le-ltb, lt-ltb, le-leb, lt-leb}
+use Rattle.std.proofs.Common.{ℕ, List, length, Ok, sym, refl, ap, ◌∙◌, ap₂}
+use Rattle.std.proofs.lemmas.Bool.{cond-true, cond-false, and_from, lt-ltb, le-leb, lt-leb}
 use Rattle.runs.specs.declared.step.Place.{Place}
-use Rattle.runs.specs.Steps.{gone_to}
 use Rattle.pages.specs.Page.{damaged}
-use Rattle.pages.specs.Events.{ran_on, wakes_at, wakes_on}
+use Rattle.pages.specs.Events.{ran_on, wakes_at}
 use Rattle.pages.proofs.Turns.{wakes_in, hears_bad}
 use Rattle.pages.proofs.event.wakes.Goals as goal
 
 pub returns-in-Busy : goal.returns-in-Busy
 unfolding wakes_at
-returns-in-Busy c = wakes_in (length c.args.stack.now) c.args.plan.now c.args.time c.args.flow _ c.goes-on.result c.in-Busy.is c.goes-on.ensures
+returns-in-Busy c = wakes_in (length c.args.stack.now) c.args.plan.now c.args.time c.args.flow _ c.goes_on.result c.in-Busy.is c.goes_on.ensures
 
 pub returns-in-Tasked : goal.returns-in-Tasked
 unfolding wakes_at
@@ -29,7 +28,7 @@ returns-then-until-time c = wakes_in (length c.args.stack.now) c.args.plan.now c
 
 pub returns-else-until-time : goal.returns-else-until-time
 unfolding wakes_at
-returns-else-until-time c = wakes_in (length c.args.stack.now) c.args.plan.now c.args.time c.args.flow _ c.goes-on-in-Asleep.result c.in-Asleep.is (c.goes-on-in-Asleep.ensures ∙ ap (λ (p : Place). ran_on (length c.args.stack.now) c.args.plan.now c.args.time p c.args.flow.vars) c.woken.ensures.flat ∙ sym (cond-true _ _ _ (le-leb _ _ c.if-until-time.false)))
+returns-else-until-time c = wakes_in (length c.args.stack.now) c.args.plan.now c.args.time c.args.flow _ c.goes_on-in-Asleep.result c.in-Asleep.is (c.goes_on-in-Asleep.ensures ∙ ap (λ (p : Place). ran_on (length c.args.stack.now) c.args.plan.now c.args.time p c.args.flow.vars) c.woken.ensures.flat ∙ sym (cond-true _ _ _ (le-leb _ _ c.if-until-time.false)))
 
 pub returns-then-until-time-2 : goal.returns-then-until-time-2
 unfolding wakes_at
@@ -37,8 +36,8 @@ returns-then-until-time-2 c = wakes_in (length c.args.stack.now) c.args.plan.now
 
 pub returns-then-var-ge64 : goal.returns-then-var-ge64
 unfolding wakes_at
-returns-then-var-ge64 c = wakes_in (length c.args.stack.now) c.args.plan.now c.args.time c.args.flow _ damaged c.in-Listens.is (sym (cond-true _ _ _ (le-leb _ _ c.if-until-time-2.false) ∙ cond-false _ _ _ (hears_bad c.in-Listens.var c.in-Listens.branch c.then-var-ge64.either)))
+returns-then-var-ge64 c = wakes_in (length c.args.stack.now) c.args.plan.now c.args.time c.args.flow _ damaged c.in-Listens.is (sym (cond-true _ _ _ (le-leb _ _ c.if-until-time-2.false) ∙ cond-false _ _ _ (hears_bad c.in-Listens.var c.in-Listens.came c.then-var-ge64.either)))
 
 pub returns-else-came-ge64 : goal.returns-else-came-ge64
 unfolding wakes_at
-returns-else-came-ge64 c = wakes_in (length c.args.stack.now) c.args.plan.now c.args.time c.args.flow _ c.goes-on-in-Listens.result c.in-Listens.is (c.goes-on-in-Listens.ensures ∙ ap₂ (λ (p : Place) (vs : List ℕ). ran_on (length c.args.stack.now) c.args.plan.now c.args.time p vs) c.heard-place.ensures.flat.0 c.heard-place.ensures.flat.1 ∙ sym (cond-true _ _ _ (le-leb _ _ c.if-until-time-2.false) ∙ cond-true _ _ _ (and_from _ _ (lt-ltb c.in-Listens.var 64 c.if-var-ge64.false) (lt-ltb c.in-Listens.branch 64 c.if-came-ge64.false))))
+returns-else-came-ge64 c = wakes_in (length c.args.stack.now) c.args.plan.now c.args.time c.args.flow _ c.goes_on-in-Listens.result c.in-Listens.is (c.goes_on-in-Listens.ensures ∙ ap₂ (λ (p : Place) (vs : List ℕ). ran_on (length c.args.stack.now) c.args.plan.now c.args.time p vs) c.heard-place.ensures.flat.0 c.heard-place.ensures.flat.1 ∙ sym (cond-true _ _ _ (le-leb _ _ c.if-until-time-2.false) ∙ cond-true _ _ _ (and_from _ _ (lt-ltb c.in-Listens.var 64 c.if-var-ge64.false) (lt-ltb c.in-Listens.came 64 c.if-came-ge64.false))))

@@ -1,4 +1,4 @@
-use Rattle.std.proofs.Common.{◌≡◌, sym, ◌∙◌, arith}
+use Rattle.std.proofs.Common.{sym, ◌∙◌, arith}
 use Rattle.pages.proofs.Looks.{one_here, one_next, one_none}
 use Rattle.pages.proofs.look.is_one_of.Goals as goal
 

@@ -6,11 +6,11 @@ use Rattle.pages.proofs.Asked.{tried_held}
 use Rattle.pages.proofs.Given.{given_as}
 use Rattle.pages.proofs.look.tried.Goals as goal
 
-pub returns-in-default : goal.returns-in-default
-returns-in-default c = let h : NoTask ≡ tried_task c.args.step c.args.attempt (step_in c.args.flow.now.place.phase) c.args.flow.now.task = search rules in record { flat = h; meant = given_as (TriedAs c.args.step c.args.attempt c.args.flow.now) (tried_task c.args.step c.args.attempt (step_in c.args.flow.now.place.phase) c.args.flow.now.task) (NoTask) (tried_held c.args.step c.args.attempt c.args.flow.now) h }
+pub returns-in_default : goal.returns-in_default
+returns-in_default c = let h : NoTask ≡ tried_task c.args.step c.args.attempt (step_in c.args.flow.now.place.phase) c.args.flow.now.task = search rules in record { flat = h; meant = given_as (TriedAs c.args.step c.args.attempt c.args.flow.now) (tried_task c.args.step c.args.attempt (step_in c.args.flow.now.place.phase) c.args.flow.now.task) (NoTask) (tried_held c.args.step c.args.attempt c.args.flow.now) h }
 
-pub returns-then-step-step-of : goal.returns-then-step-step-of
-returns-then-step-step-of c = let h : NoTask ≡ tried_task c.args.step c.args.attempt (step_in c.args.flow.now.place.phase) c.args.flow.now.task = search rules in record { flat = h; meant = given_as (TriedAs c.args.step c.args.attempt c.args.flow.now) (tried_task c.args.step c.args.attempt (step_in c.args.flow.now.place.phase) c.args.flow.now.task) (NoTask) (tried_held c.args.step c.args.attempt c.args.flow.now) h }
+pub returns-then-step-step_of : goal.returns-then-step-step_of
+returns-then-step-step_of c = let h : NoTask ≡ tried_task c.args.step c.args.attempt (step_in c.args.flow.now.place.phase) c.args.flow.now.task = search rules in record { flat = h; meant = given_as (TriedAs c.args.step c.args.attempt c.args.flow.now) (tried_task c.args.step c.args.attempt (step_in c.args.flow.now.place.phase) c.args.flow.now.task) (NoTask) (tried_held c.args.step c.args.attempt c.args.flow.now) h }
 
 pub returns-then-attempt-task : goal.returns-then-attempt-task
 returns-then-attempt-task c = let h : NotOut ≡ tried_task c.args.step c.args.attempt (step_in c.args.flow.now.place.phase) c.args.flow.now.task = search rules in record { flat = h; meant = given_as (TriedAs c.args.step c.args.attempt c.args.flow.now) (tried_task c.args.step c.args.attempt (step_in c.args.flow.now.place.phase) c.args.flow.now.task) (NotOut) (tried_held c.args.step c.args.attempt c.args.flow.now) h }

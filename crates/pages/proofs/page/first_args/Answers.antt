@@ -1,4 +1,4 @@
-use Rattle.std.proofs.Common.{◌≡◌, ℕ, ◌-◌, List, ◌++◌, length, take, drop, replicate, sym, ap, ◌∙◌, arith, length-take-le}
+use Rattle.std.proofs.Common.{◌≡◌, ℕ, ◌-◌, List, ◌++◌, take, drop, replicate, ap, ◌∙◌, arith, length-take-le}
 use Rattle.pages.proofs.Words.{filled}
 use Rattle.pages.proofs.page.first_args.Goals as goal
 
@@ -6,7 +6,7 @@ pub returns : goal.returns
 returns c =
     let xs : List ℕ = take c.args.count c.args.from.now in
     let n : c.args.count - 0 ≡ c.args.count = omega arith in
-    let p : c.copy-from-slice.new.self ≡ xs = c.copy-from-slice.ensures.after ∙ ap (λ (k : ℕ). take k c.args.from.now) n in
-    ap (λ (k : ℕ). c.copy-from-slice.new.self ++ drop k (replicate {A = ℕ} 16 0)) n
+    let p : c.copy_from_slice.new.self ≡ xs = c.copy_from_slice.ensures.after ∙ ap (λ (k : ℕ). take k c.args.from.now) n in
+    ap (λ (k : ℕ). c.copy_from_slice.new.self ++ drop k (replicate {A = ℕ} 16 0)) n
     ∙ ap (λ (l : List ℕ). l ++ drop c.args.count (replicate {A = ℕ} 16 0)) p
     ∙ filled xs c.args.count (length-take-le c.args.count c.args.from.now c.requires.1) c.requires.0

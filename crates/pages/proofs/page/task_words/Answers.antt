@@ -1,4 +1,4 @@
-use Rattle.std.proofs.Common.{◌≡◌, ℕ, List, [], ◌∷◌, ◌++◌, replicate, sym, ap, ◌∙◌, ap₂}
+use Rattle.std.proofs.Common.{◌≡◌, ℕ, List, [], ◌∷◌, ◌++◌, sym, ap, ◌∙◌, ap₂}
 use borrow.Rule.Slice.PartMut.{put_mid}
 use Rattle.pages.specs.Page.{task_words, zeros, tag_of, since_of}
 use Rattle.pages.proofs.Words.{task_laid}
@@ -8,12 +8,12 @@ pub returns-in-Some : goal.returns-in-Some
 unfolding task_words
 returns-in-Some c =
     let t = c.in-Some.task in
-    let e : c.copy-from-slice.new.self ≡ tag_of t.standing ∷ since_of t.standing ∷ t.kind ∷ t.count ∷ t.attempt ∷ t.tries ∷ t.pause ∷ 0 ∷ [] =
-    c.copy-from-slice.ensures.after ∙ ap₂ (λ (a b : ℕ). a ∷ b ∷ t.kind ∷ t.count ∷ t.attempt ∷ t.tries ∷ t.pause ∷ 0 ∷ []) c.tag-of.ensures c.since-of.ensures in
-    ap₂ (λ (h args : List ℕ). put_mid 8 16 (h ++ zeros 16) args) e c.copy-from-slice-in-Some.ensures.after
+    let e : c.copy_from_slice.new.self ≡ tag_of t.standing ∷ since_of t.standing ∷ t.kind ∷ t.count ∷ t.attempt ∷ t.tries ∷ t.pause ∷ 0 ∷ [] =
+    c.copy_from_slice.ensures.after ∙ ap₂ (λ (a b : ℕ). a ∷ b ∷ t.kind ∷ t.count ∷ t.attempt ∷ t.tries ∷ t.pause ∷ 0 ∷ []) c.tag_of.ensures c.since_of.ensures in
+    ap₂ (λ (h args : List ℕ). put_mid 8 16 (h ++ zeros 16) args) e c.copy_from_slice-in-Some.ensures.after
     ∙ task_laid (tag_of t.standing) (since_of t.standing) t.kind t.count t.attempt t.tries t.pause 0 t.args
     ∙ ap task_words (sym c.in-Some.is)
 
-pub returns-in-default : goal.returns-in-default
+pub returns-in_default : goal.returns-in_default
 unfolding task_words
-returns-in-default c = ap task_words (sym c.in-default.is)
+returns-in_default c = ap task_words (sym c.in_default.is)
