@@ -38,6 +38,6 @@ pub returns-in-9 : goal.returns-in-9
 unfolding kind_in
 returns-in-9 c = simp c.in-9.is c.time.ensures
 
-pub returns-in-default : goal.returns-in-default
+pub returns-in_default : goal.returns-in_default
 unfolding kind_in
-returns-in-default c = search rules
+returns-in_default c = search rules

@@ -8,7 +8,7 @@ pub loop-i-init : goal.loop-i-init
 loop-i-init c = sym (ap (sets c.args.out.now c.args.at) none_eight)
 
 pub loop-i-preserved : goal.loop-i-preserved
-loop-i-preserved c = word_more _ _ _ c.args.words.now c.args.at c.loop-i.i (omega arith) c.loop-i.invariant c.put-eight.ensures
+loop-i-preserved c = word_more _ _ _ c.args.words.now c.args.at c.loop-i.i (omega arith) c.loop-i.invariant c.put_eight.ensures
 
 pub returns : goal.returns
 returns c = c.loop-i.invariant ∙ ap (λ ws. sets c.args.out.now c.args.at (all_eight ws)) (take_all c.loop-i.i c.args.words.now (omega arith))

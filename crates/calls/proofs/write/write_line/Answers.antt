@@ -7,7 +7,7 @@ use Rattle.calls.proofs.write.write_line.Goals as goal
 
 pub returns : goal.returns
 returns c =
-    let out = c.if-not-goes-out.ensures in
+    let out = c.if-not-goes_out.ensures in
     let bs = bytes_of c.args.reply.now in
     let size : c.size-size.result ≡ length bs = c.size-size.ensures.is in
     let whole = line_size c.args.tag bs in
@@ -15,7 +15,7 @@ returns c =
     let count : c.size-size.result + 8 ≡ length (framed c.args.tag bs) = ap (λ n. n + 8) size ∙ sym whole in
     record {
       wrote =
-          wrote_some (goes_out c.args.reply.now) (framed c.args.tag bs) c.args.out.now c.put-reply.new.out (c.size-size.result + 8) (sym out) room
-          (line_put c.args.out.now c.put-four.new.out c.put-four-2.new.out c.put-reply.new.out bs c.size-size.result c.args.tag size c.put-four.ensures c.put-four-2.ensures c.put-reply.ensures) count;
+          wrote_some (goes_out c.args.reply.now) (framed c.args.tag bs) c.args.out.now c.put_reply.new.out (c.size-size.result + 8) (sym out) room
+          (line_put c.args.out.now c.put_four.new.out c.put_four-2.new.out c.put_reply.new.out bs c.size-size.result c.args.tag size c.put_four.ensures c.put_four-2.ensures c.put_reply.ensures) count;
       room = λ h. out;
     }

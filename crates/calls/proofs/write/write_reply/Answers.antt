@@ -4,6 +4,6 @@ use Rattle.calls.proofs.write.write_reply.Goals as goal
 
 pub returns : goal.returns
 returns c =
-    let out = c.if-not-goes-out.ensures in
+    let out = c.if-not-goes_out.ensures in
     let size = c.size-size.ensures.is in
-    record { wrote = wrote_some _ _ _ _ _ (sym out) (omega arith) c.put-reply.ensures size; room = λ h. out }
+    record { wrote = wrote_some _ _ _ _ _ (sym out) (omega arith) c.put_reply.ensures size; room = λ h. out }
