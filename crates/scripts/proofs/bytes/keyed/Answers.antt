@@ -6,4 +6,4 @@ use Rattle.scripts.proofs.bytes.keyed.Goals as goal
 
 pub returns : goal.returns
 unfolding raw_bytes
-returns c = first c.new-out.ensures.items (joins (vec_items c.new-out.result) (c.args.kind ∷ []) (short_bytes c.args.key.now) c.in-ok-push.ensures.items c.in-ok-put-short.ensures)
+returns c = first c.new-out.ensures.items (joins (vec_items c.new-out.result) (c.args.kind ∷ []) (short_bytes c.args.key.now) c.in_ok-push.ensures.items c.in_ok-put_short.ensures)

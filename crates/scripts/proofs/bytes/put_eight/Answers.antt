@@ -6,4 +6,4 @@ use Rattle.scripts.proofs.bytes.put_eight.Goals as goal
 
 pub returns : goal.returns
 unfolding raw_bytes
-returns c = (joins (vec_items c.args.out.now) (four_bytes (c.args.value / 4294967296)) (four_bytes (c.args.value % 4294967296)) c.in-ok-put-four.ensures c.in-ok-put-four-2.ensures)
+returns c = (joins (vec_items c.args.out.now) (four_bytes (c.args.value / 4294967296)) (four_bytes (c.args.value % 4294967296)) c.in_ok-put_four.ensures c.in_ok-put_four-2.ensures)

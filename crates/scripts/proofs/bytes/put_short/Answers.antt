@@ -6,4 +6,4 @@ use Rattle.scripts.proofs.bytes.put_short.Goals as goal
 
 pub returns : goal.returns
 unfolding raw_bytes
-returns c = (joins (vec_items c.args.out.now) (length c.args.bytes.now ∷ []) c.args.bytes.now c.in-ok-push.ensures.items c.in-ok-extend-from-slice.ensures.items)
+returns c = (joins (vec_items c.args.out.now) (length c.args.bytes.now ∷ []) c.args.bytes.now c.in_ok-push.ensures.items c.in_ok-extend_from_slice.ensures.items)

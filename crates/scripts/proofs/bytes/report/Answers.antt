@@ -1,4 +1,5 @@
 use Rattle.std.proofs.Common.{◌/◌, ◌%◌, [], ◌∷◌, ◌++◌, length, vec_items, ap, ◌∙◌}
+use Rattle.plans.proofs.Evals.{bool_byte_is}
 use Rattle.calls.specs.Bytes.{two_bytes, four_bytes, eight_bytes, all_eight, all_four}
 use Rattle.calls.specs.Raw.{raw_bytes, short_bytes, long_bytes, bit}
 use Rattle.scripts.proofs.Joins.{joins, first}
@@ -6,4 +7,4 @@ use Rattle.scripts.proofs.bytes.report.Goals as goal
 
 pub returns : goal.returns
 unfolding raw_bytes
-returns c = first c.new-out.ensures.items (joins (vec_items c.new-out.result) (6 ∷ []) ((eight_bytes c.args.flow.0) ++ ((eight_bytes c.args.step.0) ++ ((two_bytes c.args.attempt.0) ++ ((bit c.args.well ∷ []) ++ (eight_bytes c.args.value))))) c.in-ok-push.ensures.items (joins (vec_items c.push.new.self) (eight_bytes c.args.flow.0) ((eight_bytes c.args.step.0) ++ ((two_bytes c.args.attempt.0) ++ ((bit c.args.well ∷ []) ++ (eight_bytes c.args.value)))) c.in-ok-put-eight.ensures (joins (vec_items c.put-eight.new.out) (eight_bytes c.args.step.0) ((two_bytes c.args.attempt.0) ++ ((bit c.args.well ∷ []) ++ (eight_bytes c.args.value))) c.in-ok-put-eight-2.ensures (joins (vec_items c.put-eight-2.new.out) (two_bytes c.args.attempt.0) ((bit c.args.well ∷ []) ++ (eight_bytes c.args.value)) c.in-ok-put-two.ensures (joins (vec_items c.put-two.new.out) (bit c.args.well ∷ []) (eight_bytes c.args.value) (c.in-ok-push-2.ensures.items ∙ ap (λ b. vec_items c.put-two.new.out ++ (b ∷ [])) c.from.ensures) c.in-ok-put-eight-3.ensures)))))
+returns c = first c.new-out.ensures.items (joins (vec_items c.new-out.result) (6 ∷ []) ((eight_bytes c.args.flow.0) ++ ((eight_bytes c.args.step.0) ++ ((two_bytes c.args.attempt.0) ++ ((bit c.args.well ∷ []) ++ (eight_bytes c.args.value))))) c.in_ok-push.ensures.items (joins (vec_items c.push.new.self) (eight_bytes c.args.flow.0) ((eight_bytes c.args.step.0) ++ ((two_bytes c.args.attempt.0) ++ ((bit c.args.well ∷ []) ++ (eight_bytes c.args.value)))) c.in_ok-put_eight.ensures (joins (vec_items c.put_eight.new.out) (eight_bytes c.args.step.0) ((two_bytes c.args.attempt.0) ++ ((bit c.args.well ∷ []) ++ (eight_bytes c.args.value))) c.in_ok-put_eight-2.ensures (joins (vec_items c.put_eight-2.new.out) (two_bytes c.args.attempt.0) ((bit c.args.well ∷ []) ++ (eight_bytes c.args.value)) c.in_ok-put_two.ensures (joins (vec_items c.put_two.new.out) (bit c.args.well ∷ []) (eight_bytes c.args.value) (c.in_ok-push-2.ensures.items ∙ ap (λ b. vec_items c.put_two.new.out ++ (b ∷ [])) (c.from.ensures ∙ bool_byte_is c.args.well)) c.in_ok-put_eight-3.ensures)))))
