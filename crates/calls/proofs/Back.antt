@@ -1,11 +1,11 @@
 -- What was written is read back.
-use Rattle.std.proofs.Common.{◌≡◌, ℕ, zero, suc, ◌+◌, ◌*◌, ◌/◌, ◌%◌, ◌<◌, ◌≤◌, Bool, true, false, cond, ◌&&◌, eqb, leb, List, [], ◌∷◌, ◌++◌, length, get_or, take, drop, Some, None, Option, sym, refl, ap, ◌∙◌, append_assoc, append-nil, arith, lit<, length-append}
-use native.Mathlib.Nat.{mul-div_right, div-div-eq-div-mul}
+use Rattle.std.proofs.Common.{◌≡◌, ℕ, ◌+◌, ◌*◌, ◌/◌, ◌%◌, ◌<◌, Bool, true, false, List, [], ◌∷◌, ◌++◌, length, drop, Some, None, sym, refl, ap, ◌∙◌, append-nil, arith, length-append}
+use native.Mathlib.Nat.{div-div-eq-div-mul}
 use lib.Seq.{take-append_seam, drop-append_seam}
 use Rattle.calls.specs.Bytes.{two_at, four_at, eight_at, eights, fours, words_in, kinds_in, two_bytes, four_bytes, eight_bytes, all_eight, all_four}
-use Rattle.calls.specs.Parts.{Front, front, cut_in, short_in, long_in, many_in}
+use Rattle.calls.specs.Parts.{front, cut_in, short_in, long_in, many_in}
 use Rattle.calls.specs.Raw.{Raw, Start', Tell', Cancel', Take', Longer', Report', Show', Forget', Time', raw_bytes, raw_in, kind_in, bit, only_key, keyed, start_key, start_plan, start_words, tell_key, tell_name, take_kinds}
-use Rattle.calls.specs.Stands.{Below, Short, StartIn, TellIn, TakeIn, TryIn, InRange, ReadsBack}
+use Rattle.calls.specs.Stands.{Below, StartIn, TellIn, TakeIn, TryIn, ReadsBack}
 use Rattle.calls.proofs.Cuts.{at_least}
 use Rattle.calls.proofs.Puts.{length_all_eight}
 

@@ -1,12 +1,12 @@
 -- Cuts, and what a test says of them.
-use Rattle.std.proofs.Common.{◌≡◌, ℕ, ◌+◌, ◌-◌, ◌*◌, ◌<◌, ◌≤◌, Bool, true, false, cond, eqb, leb, List, [], ◌∷◌, length, get_or, take, drop, Some, None, Option, sym, refl, ap, ◌∙◌, arith, length-drop, take_all, eq-eqb, le-leb}
+use Rattle.std.proofs.Common.{◌≡◌, ℕ, ◌+◌, ◌-◌, ◌*◌, ◌<◌, ◌≤◌, cond, leb, List, length, get_or, take, drop, Some, None, Option, sym, ap, ◌∙◌, arith, eq-eqb, le-leb}
 use borrow.Author.Tests.{lt-leb}
 use Rattle.std.proofs.lemmas.Bool.{cond-true, cond-false, and_from}
 use Rattle.std.proofs.lemmas.Slice.{between_to_end}
 use Rattle.calls.specs.Bytes.{four_at}
 use Rattle.calls.specs.Raw.{Raw, kind_in, raw_in}
 use Rattle.calls.specs.Lines.{body_in}
-use Rattle.calls.specs.Parts.{Front, front, cut_in, short_in, long_in, many_in}
+use Rattle.calls.specs.Parts.{Front, cut_in, short_in, long_in, many_in}
 
 pub rest_is : (f : List ℕ) (n : ℕ) → take (length f - n) (drop n f) ≡ drop n f
 rest_is f n = between_to_end f n (length f) (omega arith)

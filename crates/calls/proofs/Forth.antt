@@ -1,9 +1,9 @@
 -- What is read was written so.
-use Rattle.std.proofs.Common.{◌≡◌, ℕ, zero, suc, ◌+◌, ◌-◌, ◌*◌, ◌/◌, ◌%◌, ◌<◌, ◌≤◌, Bool, true, false, cond, ◌&&◌, eqb, leb, List, [], ◌∷◌, ◌++◌, length, get_or, take, drop, Some, None, Option, sym, refl, ap, ◌∙◌, subst, append_assoc, append-nil, arith, length-append, length-drop, take-append-drop, length-take-le, drop-cons, drop-drop, eqb-true, leb-true}
+use Rattle.std.proofs.Common.{◌≡◌, ℕ, zero, suc, ◌+◌, ◌*◌, ◌/◌, ◌%◌, ◌<◌, ◌≤◌, Bool, true, false, cond, ◌&&◌, eqb, leb, List, [], ◌∷◌, ◌++◌, length, get_or, drop, Some, None, Option, sym, refl, ap, ◌∙◌, subst, append-nil, arith, length-drop, take-append-drop, length-take-le, drop-cons, drop-drop, eqb-true, leb-true}
 use Rattle.std.proofs.lemmas.Bool.{and_parts}
 use Rattle.calls.specs.Bytes.{two_at, four_at, eight_at, eights, fours, words_in, kinds_in, two_bytes, four_bytes, eight_bytes, all_eight, all_four}
 use Rattle.calls.specs.Parts.{Front, front, cut_in, short_in, long_in, many_in}
-use Rattle.calls.specs.Raw.{Raw, Start', Tell', Cancel', Take', Longer', Report', Show', Forget', Time', raw_bytes, raw_in, kind_in, bit, only_key, keyed, start_key, start_plan, start_words, tell_key, tell_name, take_kinds, longer_in, report_in, time_in}
+use Rattle.calls.specs.Raw.{Raw, Start', Tell', Cancel', Take', Longer', Report', Show', Forget', Time', raw_bytes, kind_in, bit, only_key, keyed, start_key, start_plan, start_words, tell_key, tell_name, take_kinds, longer_in, report_in, time_in}
 use Rattle.calls.specs.Stands.{Below, ReadsOnly}
 use Rattle.calls.proofs.Many.{two_past, four_past, eight_past, length_eights, length_fours}
 

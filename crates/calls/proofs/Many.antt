@@ -1,5 +1,5 @@
 -- Numbers one behind the other.
-use Rattle.std.proofs.Common.{◌≡◌, ℕ, zero, suc, ◌+◌, ◌*◌, ◌/◌, ◌<◌, ◌≤◌, List, [], ◌∷◌, length, get_or, drop, sym, refl, ap, ◌∙◌, arith, get_or-drop}
+use Rattle.std.proofs.Common.{◌≡◌, ℕ, zero, suc, ◌+◌, ◌*◌, ◌<◌, ◌≤◌, List, [], ◌∷◌, length, get_or, drop, refl, ap, ◌∙◌, arith, get_or-drop}
 use Rattle.calls.specs.Bytes.{two_at, four_at, eight_at, eights, fours}
 
 pub length_eights : (n : ℕ) (f : List ℕ) → length (eights n f) ≡ n

@@ -1,14 +1,14 @@
 -- What is read is in range.
-use Rattle.std.proofs.Common.{◌≡◌, ℕ, zero, suc, ◌+◌, ◌*◌, ◌/◌, ◌<◌, ◌≤◌, Bool, true, false, cond, ◌&&◌, eqb, ltb, leb, List, [], ◌∷◌, ◌++◌, length, get_or, take, drop, Some, None, Option, sym, refl, ap, ◌∙◌, subst, arith, lt-ltb, eqb-true, leb-true}
+use Rattle.std.proofs.Common.{◌≡◌, ℕ, zero, suc, ◌+◌, ◌*◌, ◌/◌, ◌<◌, Bool, true, ◌&&◌, eqb, ltb, leb, List, [], ◌∷◌, ◌++◌, length, get_or, drop, Some, None, Option, sym, refl, ◌∙◌, subst, arith, lt-ltb}
 use Rattle.std.proofs.lemmas.Bool.{and_from}
-use Rattle.plans.specs.Plan.{Block, every}
+use Rattle.plans.specs.Plan.{every}
 use Rattle.text.specs.Text.{Reading, nothing, plan, read_text}
-use Rattle.flows.specs.House.{Call, bytes_ok, carried}
+use Rattle.flows.specs.House.{bytes_ok, carried}
 use Rattle.calls.specs.Bytes.{two_at, four_at, eight_at, eights, fours, words_in, kinds_in, four_bytes}
 use Rattle.calls.specs.Parts.{Front, cut_in, short_in, long_in, many_in}
 use Rattle.calls.specs.Raw.{Raw, Start', Tell', Cancel', Take', Longer', Report', Show', Forget', Time', raw_in, kind_in, only_key, keyed, start_key, start_plan, start_words, tell_key, tell_name, take_kinds, longer_in, report_in, time_in}
-use Rattle.calls.specs.Called.{started, call_of}
-use Rattle.calls.specs.Stands.{Below, Short, StartIn, TellIn, TakeIn, TryIn, InRange, InRangeOf, AllCarried, CallsCarried}
+use Rattle.calls.specs.Called.{started}
+use Rattle.calls.specs.Stands.{Below, Short, StartIn, TryIn, InRange, InRangeOf, AllCarried, CallsCarried}
 use Rattle.calls.proofs.Many.{length_eights, length_fours}
 use Rattle.calls.proofs.Forth.{no_some, opened, byte, below_drop, below_left, below_right, below_tail, four_bound, cut_forth, Many, many_forth, short_forth, long_forth, short_rest, long_rest, keyed_forth, either}
 

@@ -1,5 +1,5 @@
 -- Lines: the length of the rest, a tag, and a call or an answer. Assumes nothing.
-use Rattle.std.specs.Prelude.{ℕ, ◌+◌, Bool, cond, ◌&&◌, List, ◌++◌, length, drop, Some, None, Option, ◌==◌, nat_le}
+use Rattle.std.specs.Prelude.{ℕ, ◌+◌, cond, ◌&&◌, List, ◌++◌, length, drop, Some, None, Option, ◌==◌, nat_le}
 use Rattle.calls.specs.Bytes.{four_at, four_bytes}
 
 abbrev pub framed : (tag : ℕ) → List ℕ → List ℕ

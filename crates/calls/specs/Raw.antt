@@ -1,5 +1,5 @@
 -- The calls as bytes. Assumes nothing.
-use Rattle.std.specs.Prelude.{◌≡◌, ℕ, Bool, true, false, cond, ◌&&◌, List, [], ◌∷◌, ◌++◌, length, drop, Some, None, Option, ◌==◌, nat_le, slice_index}
+use Rattle.std.specs.Prelude.{ℕ, Bool, cond, ◌&&◌, List, ◌∷◌, ◌++◌, length, drop, Some, None, Option, ◌==◌, nat_le, slice_index}
 use Rattle.calls.specs.Bytes.{two_at, four_at, eight_at, words_in, kinds_in, two_bytes, four_bytes, eight_bytes, all_eight, all_four}
 use Rattle.calls.specs.Parts.{Front, short_in, long_in, many_in}
 

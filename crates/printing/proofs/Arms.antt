@@ -1,15 +1,15 @@
 -- The arms of the functions that print an expression. Assumes nothing.
-use Rattle.std.proofs.Common.{◌≡◌, ℕ, zero, suc, ◌+◌, ◌-◌, ◌*◌, ◌<◌, ◌≤◌, Bool, true, false, cond, ◌≢◌, List, [], ◌∷◌, ◌++◌, length, get_or, drop, Some, None, codes, decimal, Option, Result, sym, refl, ap, ◌∙◌, subst, append_assoc, append-nil, arith}
+use Rattle.std.proofs.Common.{◌≡◌, ℕ, ◌+◌, ◌-◌, ◌*◌, ◌<◌, ◌≤◌, Bool, true, false, cond, ◌≢◌, List, [], ◌∷◌, ◌++◌, length, get_or, Some, None, codes, decimal, Option, Result, sym, refl, ap, ◌∙◌, subst, append_assoc, append-nil, arith}
 use Rattle.plans.specs.Plan.{Expr, expr_size}
 use Rattle.text.specs.Token.{Op, PLUS, MINUS, TIMES, LESS, SAME}
-use Rattle.text.specs.Grammar.{Level, unary, product, sum, compare}
+use Rattle.text.specs.Grammar.{Level, unary}
 use Rattle.text.specs.Printer.{expr_text, bracketed, fits}
 use Rattle.printing.specs.declared.PrintError.{PrintError}
 use Rattle.printing.specs.Levels.{own_of, right_of, op_kind, sign_text}
 use Rattle.printing.specs.Roots.{Rooted, Operation, FirstOf, FirstBefore}
 use Rattle.printing.specs.Said.{Wrote}
-use Rattle.printing.proofs.Adds.{seq, wrote_as, then_wrote}
-use Rattle.printing.proofs.Shapes.{size_some, Shape, literal, variable, operation, negation, Shaped, shaped}
+use Rattle.printing.proofs.Adds.{wrote_as, then_wrote}
+use Rattle.printing.proofs.Shapes.{size_some, Shape, literal, variable, operation, negation, shaped}
 
 op_low : (o : Op) → 18 ≤ op_kind o
 op_low PLUS = omega arith

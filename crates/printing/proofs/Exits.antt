@@ -1,5 +1,5 @@
 -- An error that is passed on. Assumes nothing.
-use Rattle.std.proofs.Common.{◌≡◌, ℕ, List, IsErrAnd, Ok, Err, Result, sym, refl, subst}
+use Rattle.std.proofs.Common.{◌≡◌, ℕ, List, IsErrAnd, Err, Result, sym, subst}
 use Rattle.std.proofs.lemmas.Result.{err_from_is_err_and}
 use Rattle.printing.specs.declared.PrintError.{PrintError}
 use Rattle.printing.specs.declared.PrintError.TheVariants.{Memory, Damaged}

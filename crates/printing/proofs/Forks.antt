@@ -1,7 +1,7 @@
 -- Statements that hold parts. Assumes nothing.
-use Rattle.std.proofs.Common.{◌≡◌, ℕ, suc, ◌+◌, ◌*◌, ◌%◌, ◌≤◌, min, Bool, true, false, not, ◌&&◌, eqb, ltb, List, [], ◌∷◌, ◌++◌, length, get_or, drop, Ok, codes, sym, refl, ap, ◌∙◌, subst, append_assoc, append-nil, arith}
-use Rattle.plans.specs.Plan.{Name, word_ok, Expr, expr_ok, expr_size, stmt_size, size_of, Stmt, Set, Do, Sleep, Hear, If, While, Guard, Return, FailNow, Block, done, then, stmt_ok, block_ok}
-use Rattle.plans.specs.Flat.{code_of, entry, lay, lay_stmt, laid, Nowhere, To, IsFlat}
+use Rattle.std.proofs.Common.{◌≡◌, ℕ, suc, ◌+◌, ◌*◌, ◌%◌, min, true, not, ◌&&◌, eqb, ltb, List, [], ◌++◌, get_or, drop, Ok, codes, sym, ap, ◌∙◌, append_assoc, append-nil}
+use Rattle.plans.specs.Plan.{Name, word_ok, Expr, expr_ok, expr_size, size_of, Stmt, Hear, If, While, Guard, Block, stmt_ok, block_ok}
+use Rattle.plans.specs.Flat.{code_of, lay, lay_stmt, laid, Nowhere, To, IsFlat}
 use Rattle.text.specs.Grammar.{compare}
 use Rattle.text.specs.Printer.{expr_text, eol, indent, lines_of, line_stmt}
 use Rattle.printing.specs.Heads.{units_in, PartAt, StmtAt, braced, told}

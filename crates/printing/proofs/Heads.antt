@@ -1,13 +1,13 @@
 -- What stands in the head of a statement, and behind it. Assumes nothing.
-use Rattle.std.proofs.Common.{◌≡◌, ℕ, zero, suc, ◌+◌, ◌-◌, ◌*◌, ◌<◌, ◌≤◌, Bool, true, false, cond, ◌&&◌, eqb, ltb, leb, List, [], ◌∷◌, ◌++◌, length, get_or, take, drop, replicate, codes, decimal, Result, sym, refl, ap, ◌∙◌, subst, append_assoc, append-nil, arith, length-append, length-drop}
+use Rattle.std.proofs.Common.{◌≡◌, ℕ, zero, suc, ◌+◌, ◌-◌, ◌*◌, ◌<◌, ◌≤◌, true, false, ◌&&◌, eqb, ltb, leb, List, [], ◌∷◌, ◌++◌, length, get_or, take, drop, replicate, codes, decimal, Result, sym, refl, ap, ◌∙◌, subst, append_assoc, arith, length-append, length-drop}
 use lib.ListN.{length-replicate}
 use Rattle.std.proofs.lemmas.Bool.Decides.{nat_tests}
-use Rattle.std.proofs.lemmas.List.{get_or-drop, take_at, drop_at, take-replicate}
-use Rattle.plans.specs.Plan.{Name, every, name_ok, word_ok, Expr, sizes, Stmt, Set, Do, Sleep, Hear, If, While, Guard, Return, FailNow, Block}
-use Rattle.plans.specs.Flat.{code_of, codes_of, padded, entry, way_word, lay, lay_stmt}
+use Rattle.std.proofs.lemmas.List.{get_or-drop, take_at, take-replicate}
+use Rattle.plans.specs.Plan.{Name, every, word_ok, Expr, sizes, Set, Do, Sleep, Hear, Return, FailNow}
+use Rattle.plans.specs.Flat.{code_of, codes_of, padded, entry, way_word, lay_stmt}
 use Rattle.text.specs.Grammar.{compare}
 use Rattle.text.specs.Printer.{expr_text, args_text, eol}
-use Rattle.printing.specs.Said.{Wrote, Spoke}
+use Rattle.printing.specs.Said.{Spoke}
 use Rattle.printing.specs.Heads.{units_in, letters_in, StmtAt, told}
 use Rattle.printing.specs.declared.PrintError.{PrintError}
 use Rattle.printing.proofs.Adds.{seq, then_spoke, spoke_as}

@@ -1,15 +1,14 @@
 -- Parts and statements where they stand in the words. Assumes nothing.
-use Rattle.std.proofs.Common.{◌≡◌, ℕ, zero, suc, ◌+◌, ◌-◌, ◌*◌, ◌%◌, ◌<◌, ◌≤◌, min, Bool, true, false, cond, ◌&&◌, eqb, ltb, leb, ◌≢◌, List, [], ◌∷◌, ◌++◌, length, get_or, take, drop, replicate, codes, decimal, Result, sym, refl, ap, ◌∙◌, subst, append_assoc, append-nil, arith}
+use Rattle.std.proofs.Common.{◌≡◌, ℕ, suc, ◌+◌, ◌*◌, ◌%◌, ◌<◌, ◌≤◌, min, Bool, true, false, cond, ◌&&◌, eqb, leb, ◌≢◌, List, ◌∷◌, ◌++◌, length, get_or, drop, replicate, Result, sym, refl, ap, ◌∙◌, subst, append_assoc, append-nil, arith}
 use native.Mathlib.Nat.{add-mul-mod_self_left}
 use Rattle.std.proofs.lemmas.Bool.Decides.{nat_tests}
-use Rattle.plans.specs.Plan.{Name, Expr, expr_size, stmt_size, size_of, Stmt, Set, Do, Sleep, Hear, If, While, Guard, Return, FailNow, Block, done, then, stmt_ok, block_ok}
-use Rattle.plans.specs.Flat.{code_of, entry, lay, lay_stmt, go_on, under}
-use Rattle.text.specs.Grammar.{compare}
-use Rattle.text.specs.Printer.{expr_text, args_text, eol, indent, line_stmt, lines_of}
+use Rattle.plans.specs.Plan.{Name, Expr, stmt_size, Stmt, Set, Do, Sleep, Hear, If, While, Guard, Return, FailNow, Block, done, then, stmt_ok, block_ok}
+use Rattle.plans.specs.Flat.{lay, lay_stmt}
+use Rattle.text.specs.Printer.{indent, line_stmt, lines_of}
 use Rattle.printing.specs.declared.PrintError.{PrintError}
-use Rattle.printing.specs.Said.{Wrote, Spoke}
-use Rattle.printing.specs.Heads.{is_unit, units_in, PartAt, StmtAt, braced, told}
-use Rattle.printing.proofs.Adds.{seq, then_spoke, spoke_as}
+use Rattle.printing.specs.Said.{Spoke}
+use Rattle.printing.specs.Heads.{is_unit, units_in, PartAt, StmtAt, told}
+use Rattle.printing.proofs.Adds.{then_spoke, spoke_as}
 use Rattle.printing.proofs.Heads.{nth_at, room_for, past4}
 
 -- the head of a statement is no unit of an expression

@@ -1,19 +1,14 @@
 -- What stands at an address, and at the root of an expression. Assumes nothing.
-use Rattle.std.proofs.Common.{◌≡◌, ℕ, zero, suc, ◌+◌, ◌-◌, ◌*◌, ◌<◌, ◌≤◌, Bool, true, false, cond, List, [], ◌∷◌, ◌++◌, length, get_or, drop, Some, None, Ok, Err, codes, decimal, Option, Result, sym, refl, ap, ◌∙◌, subst, append_assoc, append-nil, add-zero, arith, length-append, length-drop}
+use Rattle.std.proofs.Common.{◌≡◌, ℕ, ◌+◌, ◌-◌, ◌*◌, ◌<◌, ◌≤◌, List, [], ◌∷◌, ◌++◌, length, get_or, drop, codes, decimal, sym, refl, ap, ◌∙◌, subst, append_assoc, arith, length-append, length-drop}
 use Rattle.std.proofs.lemmas.List.{drop-drop, drop_at, get_or-drop}
 use Rattle.plans.specs.Plan.{Expr, Lit, Var, Plus, Minus, Times, Less, Same, Not, expr_size}
 use Rattle.plans.specs.Flat.{code_of}
 use Rattle.text.specs.Token.{Op, PLUS, MINUS, TIMES, LESS, SAME}
-use Rattle.text.specs.Grammar.{Level, unary, product, sum, compare}
+use Rattle.text.specs.Grammar.{Level, unary}
 use Rattle.text.specs.Lexer.{spell_op}
 use Rattle.text.specs.Printer.{expr_text, bracketed, between, fits}
-use Rattle.text.specs.Ahead.{operator_meant}
-use Rattle.text.specs.declared.Operator.{Operator}
-use Rattle.printing.specs.declared.PrintError.{PrintError}
 use Rattle.printing.specs.Levels.{own_of, right_of, op_kind, sign_text}
-use Rattle.printing.specs.Roots.{Rooted, Operation, FirstOf, FirstBefore}
-use Rattle.printing.specs.Said.{Wrote}
-use Rattle.printing.proofs.Adds.{seq, wrote_as, then_wrote}
+use Rattle.printing.specs.Roots.{Rooted, Operation}
 
 pub past : (ws xs ys : List ℕ) (a : ℕ) → drop a ws ≡ xs ++ ys → drop (a + length xs) ws ≡ ys
 past ws xs ys a e = sym (drop-drop (length xs) a ws) ∙ (ap (λ (l : List ℕ). drop (length xs) l) e ∙ drop_at xs ys (length xs) refl)

@@ -1,17 +1,11 @@
 -- The units of expressions, and letters, where they stand in the words. Assumes nothing.
-use Rattle.std.proofs.Common.{◌≡◌, ℕ, zero, suc, ◌+◌, ◌-◌, ◌*◌, ◌<◌, ◌≤◌, Bool, true, false, cond, ◌&&◌, eqb, ltb, leb, ◌≢◌, List, [], ◌∷◌, ◌++◌, length, get_or, drop, replicate, Ok, Err, Result, sym, refl, ap, ◌∙◌, subst, append_assoc, append-nil, le_refl, add-one, arith, length-append, length-drop, drop-cons}
+use Rattle.std.proofs.Common.{◌≡◌, ℕ, zero, suc, ◌+◌, ◌-◌, ◌*◌, ◌<◌, ◌≤◌, true, false, eqb, ltb, ◌≢◌, List, [], ◌∷◌, ◌++◌, length, get_or, drop, sym, refl, ap, ◌∙◌, subst, append_assoc, append-nil, le_refl, add-one, arith, length-append, length-drop, drop-cons}
 use Rattle.std.proofs.lemmas.Bool.Decides.{nat_tests}
 use Rattle.std.proofs.lemmas.List.{drop_all}
-use Rattle.plans.specs.Plan.{Name, every, name_ok, word_ok, Expr, Lit, Var, Plus, Minus, Times, Less, Same, Not, expr_size, sizes}
-use Rattle.plans.specs.Flat.{code_of, codes_of, padded}
-use Rattle.text.specs.Grammar.{compare}
-use Rattle.text.specs.Printer.{expr_text, args_text, more_text}
-use Rattle.printing.specs.declared.PrintError.{PrintError}
-use Rattle.printing.specs.declared.PrintError.TheVariants.{Memory, Damaged}
+use Rattle.plans.specs.Plan.{every, Expr, Lit, Var, Plus, Minus, Times, Less, Same, Not, expr_size, sizes}
+use Rattle.plans.specs.Flat.{code_of, codes_of}
 use Rattle.printing.specs.Roots.{Rooted}
-use Rattle.printing.specs.Said.{Wrote, Spoke}
 use Rattle.printing.specs.Heads.{is_unit, units_in, letters_in}
-use Rattle.printing.proofs.Adds.{then_wrote, wrote_as}
 use Rattle.printing.proofs.Shapes.{past, size_some, length_code}
 
 one_at : (ws : List ℕ) (at : ℕ) → at < length ws → drop at ws ≡ get_or ws at 0 ∷ drop (at + 1) ws

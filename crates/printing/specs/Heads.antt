@@ -1,5 +1,5 @@
 -- Statements and parts in the flat form. Assumes nothing.
-use Rattle.std.specs.Prelude.{◌≡◌, ℕ, zero, suc, ◌+◌, ◌*◌, Bool, true, false, cond, ◌&&◌, List, [], ◌∷◌, ◌++◌, drop, codes, decimal, ◌==◌, nat_le}
+use Rattle.std.specs.Prelude.{◌≡◌, ℕ, suc, ◌+◌, Bool, cond, ◌&&◌, List, [], ◌∷◌, ◌++◌, drop, codes, decimal, ◌==◌, nat_le}
 use Rattle.plans.specs.Plan.{Stmt, Set, Do, Sleep, Hear, If, While, Guard, Return, FailNow, Block}
 use Rattle.plans.specs.Flat.{Way, lay, lay_stmt}
 use Rattle.text.specs.Grammar.{compare}

@@ -1,5 +1,5 @@
 -- Operations, and where they stand. Assumes nothing.
-use Rattle.std.specs.Prelude.{◌≡◌, ℕ, ◌+◌, ◌*◌, ◌<◌, Bool, true, false, cond, List, [], ◌∷◌, Some, None, codes, Option, ◌≢◌}
+use Rattle.std.specs.Prelude.{◌≡◌, ℕ, ◌+◌, ◌*◌, ◌<◌, List, Some, None, codes, Option, ◌≢◌}
 use Rattle.text.specs.Token.{Op, PLUS, MINUS, TIMES, LESS, SAME}
 use Rattle.text.specs.Grammar as grammar
 use Rattle.text.specs.Grammar.{unary, product, sum, compare}

@@ -1,5 +1,5 @@
 -- Expressions in the flat form, by their last unit. Assumes nothing.
-use Rattle.std.specs.Prelude.{◌≡◌, ℕ, ◌+◌, ◌-◌, ◌*◌, ◌<◌, ◌≤◌, Bool, true, false, List, ◌++◌, length, drop, Some, None, Option, slice_index_or}
+use Rattle.std.specs.Prelude.{◌≡◌, ℕ, ◌+◌, ◌-◌, ◌*◌, ◌<◌, ◌≤◌, Bool, true, false, List, ◌++◌, drop, Some, None, Option, slice_index_or}
 use Rattle.plans.specs.Plan.{Expr, expr_size}
 use Rattle.plans.specs.Flat.{code_of}
 use Rattle.text.specs.Token.{Op}

@@ -1,5 +1,5 @@
 -- What a printing function has done. Assumes nothing.
-use Rattle.std.specs.Prelude.{◌≡◌, ℕ, ◌<◌, List, ◌++◌, drop, Ok, Err, Result}
+use Rattle.std.specs.Prelude.{◌≡◌, ℕ, List, ◌++◌, drop, Ok, Err, Result}
 use Rattle.printing.specs.declared.PrintError.{PrintError}
 use Rattle.printing.specs.declared.PrintError.TheVariants.{Memory, Damaged}
 

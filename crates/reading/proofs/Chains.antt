@@ -1,5 +1,5 @@
 -- Readers one after the other.
-use Rattle.std.proofs.Common.{◌≡◌, ℕ, zero, suc, ◌+◌, ◌-◌, ◌<◌, ◌≤◌, List, [], ◌∷◌, ◌++◌, length, sym, refl, ap, ◌∙◌, subst, le_refl, arith}
+use Rattle.std.proofs.Common.{◌≡◌, ℕ, zero, suc, ◌≤◌, List, [], ◌∷◌, length, sym, ap, subst, arith}
 use Rattle.text.specs.Token.{Token, Got, fails, got}
 use Rattle.text.specs.Lexer.{Lexed, wrong, tokens, both}
 use Rattle.text.specs.Parser.{and_then}

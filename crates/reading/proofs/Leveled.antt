@@ -8,26 +8,24 @@ use Rattle.text.specs.Token.{SET, DO, TRIES, PAUSE, SLEEP, HEAR, FOR, IF, ELSE, 
 use Rattle.text.specs.Token as token
 use Rattle.text.specs.Lexer.{Lexed, wrong, tokens, both}
 use Rattle.text.specs.Parser.{and_then, Parser, Join, joins, ends, on_join, product_op, sum_op, compare_op, more_s, chain_s, unary_s, levels, in_bracket, by_word, after}
-use Rattle.text.specs.Ahead.{ahead, key_meant, operator_meant, means, meant, taken, stops}
+use Rattle.text.specs.Ahead.{ahead, key_meant, operator_meant, means, meant, stops}
 use Rattle.text.specs.declared.Lexeme.{Lexeme}
 use Rattle.text.specs.declared.Token.{Token}
 use Rattle.text.specs.declared.Token.TheVariants as is
 use Rattle.text.specs.declared.Operator.{Operator}
 use Rattle.text.specs.declared.Operator.TheVariants as by
-use Rattle.text.specs.declared.Key.{Key}
 use Rattle.text.specs.declared.Key.TheVariants as word
 use Rattle.reading.specs.declared.exprs.Level.{Level}
 use Rattle.reading.specs.declared.exprs.Level.TheVariants.{Compare, Sum, Product, Unary}
 use Rattle.reading.specs.declared.error.NoPlan.{NoPlan}
 use Rattle.reading.specs.declared.exprs.Cursor.{Cursor}
-use Rattle.reading.specs.declared.exprs.Opening.{Opening}
 use Rattle.reading.specs.declared.exprs.Opening.TheVariants as opening
 use Rattle.reading.specs.Took.{Family, Took, found, Only, Bars, bars}
 use Rattle.reading.specs.Took as took
 use Rattle.reading.specs.Tokens.{one_key}
-use Rattle.reading.specs.Levels.{below_of, is_unary, join_at, parser_at, expr_at, more_at, only_at, joins_at, kind_of, build, key_opens, opens_at, NoRoom, Further, Leaf, ReadExpr}
+use Rattle.reading.specs.Levels.{below_of, is_unary, join_at, parser_at, expr_at, more_at, only_at, joins_at, kind_of, build, opens_at, NoRoom, Further, Leaf, ReadExpr}
 use Rattle.reading.proofs.Taking.{take_token, bar_token, bar_stop, bar_bad}
-use Rattle.reading.proofs.Chains.{Gives, Leaves, prefix, prefix_bar, bind, bind_bar, rename_bar, took_bar, only_then, only_at_lem, and_at}
+use Rattle.reading.proofs.Chains.{prefix, prefix_bar, bind, bind_bar, rename_bar, took_bar, only_then, only_at_lem, and_at}
 
 pub only_any : {A : Type 0} (g : Got A) → Only (λ _. Unit {0}) g
 only_any fails = tt

@@ -1,7 +1,7 @@
 -- Statements and parts against the reader of tokens.
-use Rattle.std.proofs.Common.{◌≡◌, ℕ, zero, suc, ◌+◌, ◌-◌, ◌*◌, ◌/◌, ◌<◌, ◌≤◌, Bool, true, false, cond, eqb, List, [], ◌∷◌, ◌++◌, length, take, drop, Ok, Err, Result, sym, refl, ap, ◌∙◌, subst, append_assoc, le_trans, le_refl, arith, length-append, length-take-le}
+use Rattle.std.proofs.Common.{◌≡◌, ℕ, zero, suc, ◌+◌, ◌-◌, ◌*◌, ◌/◌, ◌<◌, ◌≤◌, true, false, List, [], ◌∷◌, ◌++◌, length, take, Ok, Err, Result, sym, refl, ap, ◌∙◌, subst, append_assoc, le_refl, arith, length-take-le}
 use Rattle.std.proofs.lemmas.Bool.{false≢true}
-use Rattle.plans.specs.Plan.{Expr, Stmt, Set, Sleep, If, While, Guard, Return, FailNow, Block, done, then, expr_size, size_of, stmt_size}
+use Rattle.plans.specs.Plan.{Expr, Stmt, Sleep, If, While, Guard, Return, FailNow, Block, done, then, expr_size, size_of, stmt_size}
 use Rattle.plans.specs.Flat.{code_of, draft_stmt, draft_of}
 use Rattle.plans.proofs.Drafts.{code_length, draft_length, stmt_length}
 use Rattle.plans.proofs.Parts.{some_size}
@@ -11,30 +11,27 @@ use Rattle.text.specs.Lexer.{Lexed, wrong, tokens, both}
 use Rattle.text.specs.Parser.{and_then, after, after_same, with_variable, expr_s, part_s, key_s, assign_s, stmt_s, ended, block_s}
 use Rattle.text.specs.Parser as parser
 use Rattle.text.specs.Grammar.{IsStmt}
-use Rattle.text.specs.Ahead.{ahead, key_meant, operator_meant, means, meant, stops}
-use Rattle.text.proofs.Sound.{Holds, holds_got}
+use Rattle.text.specs.Ahead.{ahead, operator_meant, means, stops}
+use Rattle.text.proofs.Sound.{holds_got}
 use Rattle.text.proofs.Sounds.{stmt_sound, block_sound}
 use Rattle.text.proofs.Completes.{stmt_shorter}
-use Rattle.text.specs.declared.Lexeme.{Lexeme}
 use Rattle.text.specs.declared.Token.{Token}
 use Rattle.text.specs.declared.Token.TheVariants as is
-use Rattle.text.specs.declared.Key.{Key}
 use Rattle.text.specs.declared.Key.TheVariants as word
 use Rattle.reading.specs.declared.error.NoPlan.{NoPlan}
 use Rattle.reading.specs.declared.exprs.Cursor.{Cursor}
-use Rattle.reading.specs.declared.stmts.Beginning.{Beginning}
 use Rattle.reading.specs.declared.stmts.Beginning.TheVariants as begin
 use Rattle.reading.specs.Took.{Family, Took, found, Only, Bars, bars}
 use Rattle.reading.specs.Took as took
-use Rattle.reading.specs.Tokens.{one_key, one_same, one_variable}
-use Rattle.reading.specs.Beginnings.{key_begins, begins_at, key_ends, ends_at, Failure}
+use Rattle.reading.specs.Tokens.{one_key}
+use Rattle.reading.specs.Beginnings.{begins_at, ends_at, Failure}
 use Rattle.reading.specs.Levels.{NoRoom, Onwards, Leaf}
-use Rattle.reading.specs.Statements.{put4, ReadItem, Large, Read, ReadStmt, ReadPart, whole_expr, expr_then, set_behind, set_at, part_at, closed_at, opened_at, other_at, if_else, if_behind, if_at, while_behind, while_at, guard_else, guard_at, stmt_at, key_at, assign_at}
-use Rattle.reading.proofs.Chains.{Gives, Leaves, prefix, prefix_bar, bind, bind_bar, rename, rename_bar, took_bar, only_then, only_at_lem, and_at}
+use Rattle.reading.specs.Statements.{put4, Large, ReadStmt, ReadPart, whole_expr, expr_then, set_at, part_at, closed_at, opened_at, other_at, if_else, if_behind, if_at, while_behind, while_at, guard_else, guard_at, stmt_at, key_at, assign_at}
+use Rattle.reading.proofs.Chains.{Gives, Leaves, prefix, prefix_bar, only_then, only_at_lem, and_at}
 use Rattle.reading.proofs.Fours.{head_words, long_as}
 use Rattle.reading.proofs.Taking.{bar_token, bar_stop, bar_bad}
 use Rattle.reading.proofs.Leveled.{only_any, only_more, units_are, after_is, head_is, none_is, wrong_is}
-use Rattle.reading.proofs.Steps.{Then, step_took, step_bar, step_bar_first, step_refused, end_took, only_behind}
+use Rattle.reading.proofs.Steps.{step_took, step_bar, step_bar_first, step_refused, end_took, only_behind}
 
 -- joining readers
 pub and_cong : {A B : Type 0} (g : Got A) (f h : A → List token.Token → Got B) → ((a : A) (us : List token.Token) → f a us ≡ h a us) → and_then g f ≡ and_then g h

@@ -1,23 +1,22 @@
 -- Pieces of a statement, one after the other.
-use Rattle.std.proofs.Common.{◌≡◌, ℕ, zero, suc, ◌+◌, ◌-◌, ◌*◌, ◌/◌, ◌<◌, ◌≤◌, List, [], ◌∷◌, ◌++◌, length, take, Ok, Err, Result, sym, refl, ap, ◌∙◌, subst, append_assoc, le_trans, le_refl, arith, length-append, length-take-le}
-use Rattle.plans.specs.Plan.{Expr, Stmt, Set, Block, expr_size, size_of, stmt_size}
-use Rattle.plans.specs.Flat.{code_of, draft_stmt, draft_of}
+use Rattle.std.proofs.Common.{◌≡◌, ℕ, zero, suc, ◌+◌, ◌-◌, ◌/◌, ◌≤◌, List, [], ◌∷◌, ◌++◌, length, take, Ok, Err, Result, sym, refl, ap, ◌∙◌, le_trans, le_refl, arith, length-take-le}
+use Rattle.plans.specs.Plan.{Expr, Stmt, Set, expr_size, stmt_size}
+use Rattle.plans.specs.Flat.{code_of, draft_stmt}
 use Rattle.plans.proofs.Drafts.{code_length}
-use Rattle.text.specs.Token.{Token, Got, fails, got}
+use Rattle.text.specs.Token.{Token, Got, got}
 use Rattle.text.specs.Lexer.{Lexed, wrong, tokens}
-use Rattle.text.specs.Parser.{and_then, expr_s, levels, unary_s}
-use Rattle.text.specs.Ahead.{ahead}
+use Rattle.text.specs.Parser.{and_then, expr_s, levels}
 use Rattle.reading.specs.declared.error.NoPlan.{NoPlan}
 use Rattle.reading.specs.declared.exprs.Cursor.{Cursor}
 use Rattle.reading.specs.declared.exprs.Level.TheVariants.{Compare}
 use Rattle.reading.specs.Took.{Family, Took, found, Only, Bars, bars}
 use Rattle.reading.specs.Took as took
 use Rattle.reading.specs.Levels.{expr_at, NoRoom, Onwards, Further, ReadExpr}
-use Rattle.reading.specs.Statements.{put4, ReadItem, Large, Read, ReadStmt, whole_expr, expr_then, set_behind, set_at}
+use Rattle.reading.specs.Statements.{put4, Large, ReadStmt, whole_expr, expr_then, set_behind, set_at}
 use Rattle.reading.specs.Tokens.{one_variable, one_same}
-use Rattle.reading.proofs.Chains.{Gives, Leaves, bind, bind_bar, rename, rename_bar, only_then, only_at_lem, and_at}
+use Rattle.reading.proofs.Chains.{bind, bind_bar, rename, rename_bar, only_then, only_at_lem, and_at}
 use Rattle.reading.proofs.Fours.{head_words, long_as}
-use Rattle.reading.proofs.Leveled.{only_any, units_are, no_room}
+use Rattle.reading.proofs.Leveled.{only_any, units_are}
 
 -- one piece, and what is behind it
 abbrev pub Then : {A B : Type 0} → Family A → (A → Family B) → Family B

@@ -1,5 +1,5 @@
 -- Taking one token of a text.
-use Rattle.std.proofs.Common.{◌≡◌, ℕ, zero, suc, ◌+◌, ◌-◌, ◌<◌, ◌≤◌, Bool, true, false, cond, eqb, List, [], ◌∷◌, ◌++◌, length, take, drop, sym, refl, ap, ◌∙◌, subst, arith}
+use Rattle.std.proofs.Common.{◌≡◌, ℕ, zero, suc, ◌<◌, ◌≤◌, Bool, true, false, eqb, List, [], ◌∷◌, length, sym, refl, ap, ◌∙◌, subst, arith}
 use Rattle.std.proofs.lemmas.List.{drop_all}
 use Rattle.std.proofs.lemmas.Bool.{false≢true}
 use Rattle.std.proofs.lemmas.Bool.Decides.{nat_tests}
@@ -8,11 +8,10 @@ use Rattle.text.specs.Token.{PLUS, MINUS, TIMES, LESS, SAME, number, variable, n
 use Rattle.text.specs.Token as token
 use Rattle.text.specs.Lexer.{Lexed, wrong, tokens, both, lex, ended, tokens_in}
 use Rattle.text.specs.Parser.{code_of, after, after_same, with_number, with_variable, with_name}
-use Rattle.text.specs.Ahead.{ahead, key_meant, operator_meant, means, meant, taken, stops, Forth}
+use Rattle.text.specs.Ahead.{ahead, key_meant, operator_meant, means, taken, stops, Forth}
 use Rattle.text.specs.declared.Lexeme.{Lexeme}
 use Rattle.text.specs.declared.Token.{Token}
 use Rattle.text.specs.declared.Token.TheVariants as is
-use Rattle.text.specs.declared.Operator.{Operator}
 use Rattle.text.specs.declared.Operator.TheVariants as by
 use Rattle.text.specs.declared.Key.{Key}
 use Rattle.text.specs.declared.Key.TheVariants.{Set, Do, Tries, Pause, Sleep, Hear, For, If, Else, While, Guard, Return, Fail, Not, Open, Close, Begin, End, Comma}

@@ -13,7 +13,7 @@ use Rattle.text.specs.Lexer.{Lexed, wrong, tokens, both}
 use Rattle.text.specs.Parser.{and_then, after, after_same, with_number, with_variable, with_name, if_ok, expr_s, args_s, list_s, do_s, hear_s, assign_s}
 use Rattle.text.specs.Parser as parser
 use Rattle.text.specs.Grammar.{do_ok}
-use Rattle.text.specs.Ahead.{ahead, key_meant, operator_meant, means, stops}
+use Rattle.text.specs.Ahead.{operator_meant, means, stops}
 use Rattle.text.specs.declared.Token.{Token}
 use Rattle.text.specs.declared.Token.TheVariants as is
 use Rattle.text.specs.declared.Key.TheVariants as word
@@ -26,10 +26,10 @@ use Rattle.reading.specs.Tokens.{one_key, one_same, one_number, one_variable, on
 use Rattle.reading.specs.Levels.{NoRoom}
 use Rattle.reading.specs.Statements.{put4, Large, ReadStmt, whole_expr, front_open, front_kind, front_at, Times, back_pause, back_then, back_tries, back_at, times_ok, args_at, list_at, task_done, task_args, task_kind, task_at, Heard, heard_for, heard_name, heard_hear, heard_same, heard_at, hear_done, hear_for, hear_at, assign_at}
 use Rattle.reading.specs.Tasks.{closes_at, Many, ReadArgs, ArgsOn, named}
-use Rattle.reading.proofs.Chains.{Gives, Leaves, prefix, prefix_bar, rename, rename_bar, only_then, only_at_lem, and_at}
-use Rattle.reading.proofs.Fours.{head_words, long_as, four_length}
-use Rattle.reading.proofs.Taking.{take_token, bar_token, bar_stop, bar_bad}
-use Rattle.reading.proofs.Leveled.{only_any, only_more, units_are, after_is, head_is, none_is, wrong_is}
+use Rattle.reading.proofs.Chains.{rename, only_then, only_at_lem, and_at}
+use Rattle.reading.proofs.Fours.{head_words, four_length}
+use Rattle.reading.proofs.Taking.{take_token}
+use Rattle.reading.proofs.Leveled.{units_are, after_is, head_is, none_is, wrong_is}
 use Rattle.reading.proofs.Steps.{step_took, step_bar, step_bar_first, step_refused, end_took, only_behind}
 use Rattle.reading.proofs.Stated.{and_cong, and_assoc, variable_is, same_is, short, long}
 

@@ -1,15 +1,15 @@
 -- From a part that is the whole text to the plan.
-use Rattle.std.proofs.Common.{◌≡◌, ℕ, zero, suc, ◌+◌, ◌-◌, ◌*◌, ◌/◌, ◌<◌, ◌≤◌, Bool, true, false, cond, leb, List, [], ◌∷◌, ◌++◌, length, take, drop, Ok, Err, Result, sym, refl, ap, ◌∙◌, subst, le_refl, arith}
+use Rattle.std.proofs.Common.{◌≡◌, ℕ, suc, ◌-◌, ◌*◌, ◌/◌, ◌<◌, ◌≤◌, true, false, leb, List, [], ◌∷◌, length, take, Ok, Err, Result, refl, ap, ◌∙◌, le_refl, arith}
 use Rattle.std.proofs.lemmas.Bool.Decides.{nat_tests}
 use Rattle.plans.specs.Plan.{Block, size_of}
-use Rattle.plans.specs.Flat.{draft_of, Nowhere, lay, laid}
+use Rattle.plans.specs.Flat.{draft_of, Nowhere, laid}
 use Rattle.plans.proofs.Drafts.{draft_length, lay_length}
 use Rattle.text.proofs.Texts.{read_sound, read_complete}
 use Rattle.text.specs.Token.{number, variable, name, op, key, Got, fails, got}
 use Rattle.text.specs.Token as token
 use Rattle.text.specs.Lexer.{Lexed, wrong, tokens, both, tokens_in}
 use Rattle.text.specs.Parser.{block_s, plan_s}
-use Rattle.text.specs.Text.{IsText, Reading, nothing, plan, sized, whole, parsed, read_text}
+use Rattle.text.specs.Text.{IsText, nothing, plan, sized, whole, parsed, read_text}
 use Rattle.text.specs.Ahead.{ahead, key_meant, operator_meant, means, stops}
 use Rattle.text.specs.declared.Token.{Token}
 use Rattle.text.specs.declared.Token.TheVariants as is
@@ -20,7 +20,7 @@ use Rattle.reading.specs.declared.error.ReadError.{ReadError}
 use Rattle.reading.specs.declared.error.ReadError.TheVariants.{NotPlan, NoRoom, ShortDraft}
 use Rattle.reading.specs.Plans.{IsRead, Writes, Reads}
 use Rattle.reading.proofs.Fours.{long_as}
-use Rattle.reading.proofs.Leveled.{units_are, head_is}
+use Rattle.reading.proofs.Leveled.{head_is}
 
 too_long : (text : List ℕ) → 65536 < length text → leb (length text) 65536 ≡ false
 too_long text h = grind (arith, nat_tests)

@@ -3,7 +3,7 @@ use Rattle.std.specs.Prelude.{◌≡◌, ℕ, ◌+◌, ◌*◌, ◌<◌, ◌≤�
 use Rattle.plans.specs.Plan.{Expr, Plus, Minus, Times, Less, Same, expr_size}
 use Rattle.plans.specs.Flat.{code_of}
 use Rattle.text.specs.Token as token
-use Rattle.text.specs.Parser.{Parser, Join, joins, ends, product_op, sum_op, compare_op, more_s, chain_s, unary_s}
+use Rattle.text.specs.Parser.{Parser, Join, ends, product_op, sum_op, compare_op, more_s, chain_s, unary_s}
 use Rattle.text.specs.Lexer.{Lexed, tokens, both}
 use Rattle.text.specs.Ahead.{ahead}
 use Rattle.text.specs.declared.Token.{Token}

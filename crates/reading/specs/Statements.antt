@@ -1,7 +1,7 @@
 -- Readers of statements and of parts, piece by piece. Assumes nothing.
-use Rattle.std.specs.Prelude.{◌≡◌, ℕ, suc, ◌+◌, ◌-◌, ◌*◌, ◌<◌, ◌≤◌, Bool, true, false, not, ◌&&◌, ◌⊎◌, List, [], ◌∷◌, ◌++◌, length, take, Ok, Err, Result, ◌==◌, nat_le, nat_lt, slice_set}
-use Rattle.plans.specs.Plan.{Name, Expr, Stmt, Set, Do, Sleep, Hear, If, While, Guard, Return, FailNow, Block, done, then, expr_size, sizes, stmt_size, size_of}
-use Rattle.plans.specs.Flat.{code_of, codes_of, draft_stmt, draft_of}
+use Rattle.std.specs.Prelude.{◌≡◌, ℕ, suc, ◌+◌, ◌*◌, ◌<◌, Bool, not, ◌&&◌, List, ◌++◌, length, take, Ok, Err, Result, ◌==◌, nat_le, nat_lt, slice_set}
+use Rattle.plans.specs.Plan.{Name, Expr, Stmt, Set, Do, Hear, If, While, Guard, Block, stmt_size, size_of}
+use Rattle.plans.specs.Flat.{draft_stmt, draft_of}
 use Rattle.text.specs.Token as token
 use Rattle.text.specs.Token.{Got, fails, got}
 use Rattle.text.specs.Lexer.{Lexed}

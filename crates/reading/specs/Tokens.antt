@@ -1,11 +1,11 @@
 -- Readers of one token. Assumes nothing.
-use Rattle.std.specs.Prelude.{◌≡◌, ℕ, ◌-◌, ◌<◌, ◌≤◌, Bool, true, false, List, [], ◌∷◌, length, take, drop, Ok, Err, Result}
+use Rattle.std.specs.Prelude.{ℕ, ◌-◌, ◌<◌, ◌≤◌, Bool, true, false, List, length, take, drop, Ok, Err, Result}
 use Rattle.plans.specs.Plan.{Name}
 use Rattle.text.specs.Token.{Token, Got, fails, got}
 use Rattle.text.specs.Token as token
 use Rattle.text.specs.Lexer.{Lexed}
 use Rattle.text.specs.Parser.{after, after_same, with_number, with_variable, with_name}
-use Rattle.text.specs.Ahead.{ahead, key_meant}
+use Rattle.text.specs.Ahead.{ahead}
 use Rattle.text.specs.declared.Token.TheVariants as is
 use Rattle.text.specs.declared.Operator.{Operator}
 use Rattle.text.specs.declared.Operator.TheVariants as by

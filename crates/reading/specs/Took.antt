@@ -1,6 +1,6 @@
 -- What a reader takes of a text, against the reader of tokens. Assumes nothing.
 -- A reader of tokens comes as a family: its two numbers are how often it may call itself, and there are never too few.
-use Rattle.std.specs.Prelude.{◌≡◌, ℕ, suc, ◌<◌, ◌≤◌, Bool, true, false, List, [], ◌∷◌, length}
+use Rattle.std.specs.Prelude.{◌≡◌, ℕ, ◌≤◌, List, length}
 use Rattle.text.specs.Token.{Token, Got, fails, got}
 use Rattle.text.specs.Lexer.{Lexed, wrong, tokens}
 

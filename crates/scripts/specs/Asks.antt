@@ -1,5 +1,5 @@
 -- The calls of a script, and their bytes. Assumes nothing.
-use Rattle.std.specs.Prelude.{◌≡◌, ℕ, Bool, true, false, cond, ◌&&◌, List, Some, None, vec_items, vec_len, Option, nat_lt}
+use Rattle.std.specs.Prelude.{◌≡◌, ℕ, Bool, true, cond, ◌&&◌, List, Some, None, vec_items, vec_len, Option, nat_lt}
 use Rattle.calls.specs.Raw.{Raw, Start', Tell', Cancel', Take', Longer', Report', Show', Forget', Time', raw_bytes}
 use Rattle.scripts.specs.declared.lines.Asked.{Asked}
 use Rattle.scripts.specs.declared.lines.Asked.TheVariants.{Start, Tell, Cancel, Take, Longer, Report, Show, Forget, Time}

@@ -1,5 +1,5 @@
 -- What is printed of a text. Assumes nothing.
-use Rattle.std.specs.Prelude.{◌≡◌, ℕ, suc, ◌+◌, ◌-◌, ◌<◌, ◌≤◌, Bool, cond, List, [], ◌∷◌, length, take, ◌==◌, ◌≢◌, slice_index}
+use Rattle.std.specs.Prelude.{◌≡◌, ℕ, suc, ◌+◌, ◌-◌, ◌<◌, ◌≤◌, cond, List, [], ◌∷◌, length, take, ◌==◌, ◌≢◌, slice_index}
 use Rattle.tidy.specs.declared.Place.{Place}
 use Rattle.plans.specs.Plan.{Block}
 use Rattle.text.specs.Printer.{text_of}

@@ -1,4 +1,4 @@
-use Rattle.std.proofs.Common.{◌-◌, sym, ◌∙◌, arith}
+use Rattle.std.proofs.Common.{◌∙◌, arith}
 use Rattle.printing.proofs.Args.{last_arg, no_args, one_arg, more_args}
 use Rattle.printing.proofs.Exits.{fine_wrote, wrote_exit}
 use Rattle.printing.proofs.+print_args.Goals as goal

@@ -1,7 +1,7 @@
-use Rattle.std.proofs.Common.{suc, ◌+◌, sym, refl, ◌∙◌, arith}
+use Rattle.std.proofs.Common.{suc, arith}
 use Rattle.std.proofs.lemmas.Result.{IfOk-from_err, IfOk-weaker}
 use Rattle.printing.specs.Heads.{told}
-use Rattle.printing.proofs.Exits.{fine_wrote, fine_spoke, spoke_exit}
+use Rattle.printing.proofs.Exits.{fine_spoke, spoke_exit}
 use Rattle.printing.proofs.Heads.{sleep_value, return_value}
 use Rattle.printing.proofs.Parts.{stmt_arm, no_kind, none_of, k_set, k_do, k_sleep, k_hear, k_if, k_while, k_guard, k_return, goes_start, goes_end, goes_room, goes_more}
 use Rattle.printing.proofs.Forks.{fail_arm, if_at_lem, while_at_lem, guard_at_lem, if_said, while_said, guard_said, braced_said, if_first, if_other, while_first, guard_first, guard_other, hear_word}

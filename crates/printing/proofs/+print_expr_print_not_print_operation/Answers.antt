@@ -1,4 +1,4 @@
-use Rattle.std.proofs.Common.{codes, sym, refl, ◌∙◌, arith}
+use Rattle.std.proofs.Common.{codes, arith}
 use Rattle.text.specs.Ahead.{operator_meant}
 use Rattle.printing.specs.Levels.{level_meant}
 use Rattle.printing.proofs.Adds.{then_wrote}

@@ -1,4 +1,4 @@
-use Rattle.std.proofs.Common.{◌+◌, refl, arith}
+use Rattle.std.proofs.Common.{◌+◌, arith}
 use Rattle.std.proofs.lemmas.Result.{IfOk-from_err}
 use Rattle.printing.proofs.Exits.{fine_wrote, spoke_exit}
 use Rattle.printing.proofs.Heads.{do_room, do_args, do_end, do_count, do_past, do_said}

@@ -1,4 +1,4 @@
-use Rattle.std.proofs.Common.{◌+◌, refl, arith}
+use Rattle.std.proofs.Common.{arith}
 use Rattle.std.proofs.lemmas.Result.{IfOk-from_err, IfOk-weaker}
 use Rattle.printing.proofs.Exits.{fine_wrote, spoke_exit}
 use Rattle.printing.proofs.Heads.{hear_room, hear_small, hear_value, hear_said}

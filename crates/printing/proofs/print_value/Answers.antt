@@ -1,4 +1,4 @@
-use Rattle.std.proofs.Common.{refl, arith}
+use Rattle.std.proofs.Common.{arith}
 use Rattle.std.proofs.lemmas.Result.{IfOk-from_err}
 use Rattle.printing.proofs.Units.{value_rooted, value_low, value_some, value_past}
 use Rattle.printing.proofs.Exits.{fine_wrote, spoke_exit}

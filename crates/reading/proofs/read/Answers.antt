@@ -1,4 +1,4 @@
-use Rattle.std.proofs.Common.{◌≡◌, sym, refl, ap, ◌∙◌, subst, arith}
+use Rattle.std.proofs.Common.{refl, arith}
 use native.Mathlib.Nat.{sub-zero}
 use Rattle.reading.proofs.Whole.{not_text, reads_of}
 use Rattle.reading.proofs.read.Goals as goal

@@ -1,4 +1,4 @@
-use Rattle.std.proofs.Common.{◌≡◌, ℕ, suc, ◌+◌, get_or, sym, refl, ap, ◌∙◌, subst, arith}
+use Rattle.std.proofs.Common.{◌+◌, sym, ◌∙◌, subst, arith}
 use Rattle.tidy.proofs.Feeds.{Bare, feed_here, no_feed, bare_none, bare_more, behind_here}
 use Rattle.tidy.proofs.place_of.Goals as goal
 use Rattle.tidy.proofs.place_of.Goals.{then-text-i-eq10, else-text-i-eq10}

@@ -1,10 +1,9 @@
-use Rattle.std.proofs.Common.{◌≡◌, ℕ, ◌+◌, ◌≤◌, List, [], ◌++◌, length, take, vec_items, vec_len, sym, refl, ap, ◌∙◌, subst, arith}
+use Rattle.std.proofs.Common.{ℕ, ◌++◌, take, vec_items, ap, ◌∙◌, arith}
 use Rattle.plans.specs.Flat.{laid}
 use Rattle.plans.proofs.Written.{noted_all}
 use Rattle.plans.proofs.Parts.{laid_length}
 use Rattle.plans.specs.contracts.sheet.SlateSheet.TheImpl.{ghosts}
 use Rattle.text.proofs.Texts.{sayable}
-use Rattle.tidy.specs.Tidies.{Why}
 use Rattle.tidy.proofs.Reasons.{why_of}
 use Rattle.tidy.proofs.tidy.Goals as goal
 

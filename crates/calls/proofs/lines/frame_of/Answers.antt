@@ -1,4 +1,4 @@
-use Rattle.std.proofs.Common.{◌≡◌, ◌+◌, length, sym, refl, ap, ◌∙◌, arith}
+use Rattle.std.proofs.Common.{◌≡◌, ◌+◌, length, sym, ◌∙◌, arith}
 use Rattle.calls.specs.Bytes.{four_at}
 use Rattle.calls.proofs.Cuts.{body_is, at_least}
 use Rattle.calls.proofs.lines.frame_of.Goals as goal

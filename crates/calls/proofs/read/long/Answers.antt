@@ -1,4 +1,4 @@
-use Rattle.std.proofs.Common.{◌≡◌, sym, refl, ap, ◌∙◌, arith}
+use Rattle.std.proofs.Common.{arith}
 use Rattle.calls.proofs.Cuts.{long_is}
 use Rattle.calls.proofs.read.long.Goals as goal
 

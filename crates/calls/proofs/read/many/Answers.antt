@@ -1,4 +1,4 @@
-use Rattle.std.proofs.Common.{◌≡◌, sym, refl, ap, ◌∙◌, arith}
+use Rattle.std.proofs.Common.{arith}
 use Rattle.calls.proofs.Cuts.{many_is}
 use Rattle.calls.proofs.read.many.Goals as goal
 

@@ -1,4 +1,4 @@
-use Rattle.std.proofs.Common.{◌≡◌, sym, refl, ap, ◌∙◌, rules}
+use Rattle.std.proofs.Common.{rules}
 use Rattle.calls.specs.Raw.{kind_in}
 use Rattle.calls.proofs.read.of_kind.Goals as goal
 

@@ -1,4 +1,4 @@
-use Rattle.std.proofs.Common.{◌≡◌, ◌<◌, get_or, arith}
+use Rattle.std.proofs.Common.{arith}
 use Rattle.calls.specs.Stands.{Below}
 use Rattle.calls.proofs.Cuts.{raw_is}
 use Rattle.calls.proofs.Ranges.{below_typed, ranged}

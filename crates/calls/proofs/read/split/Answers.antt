@@ -1,4 +1,4 @@
-use Rattle.std.proofs.Common.{◌≡◌, sym, ◌∙◌, arith}
+use Rattle.std.proofs.Common.{sym, arith}
 use Rattle.calls.proofs.Cuts.{at_least}
 use Rattle.calls.proofs.read.split.Goals as goal
 

@@ -1,4 +1,4 @@
-use Rattle.std.proofs.Common.{◌≡◌, sym, refl, ap, ◌∙◌}
+use Rattle.std.proofs.Common.{refl, ap, ◌∙◌}
 use lib.Seq.{sets}
 use Rattle.calls.specs.Replies.{job_bytes}
 use Rattle.calls.proofs.Puts.{job_put}

@@ -1,4 +1,4 @@
-use Rattle.std.proofs.Common.{◌≡◌, sym, ap, ◌∙◌, arith}
+use Rattle.std.proofs.Common.{sym, ap, ◌∙◌, arith}
 use lib.Seq.{sets}
 use Rattle.calls.specs.Replies.{bytes_of}
 use Rattle.calls.proofs.Puts.{job_size}

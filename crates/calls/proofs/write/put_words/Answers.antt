@@ -1,4 +1,4 @@
-use Rattle.std.proofs.Common.{◌≡◌, length, sym, refl, ap, ◌∙◌, arith, take_all}
+use Rattle.std.proofs.Common.{sym, ap, ◌∙◌, arith, take_all}
 use lib.Seq.{sets}
 use Rattle.calls.specs.Bytes.{all_eight}
 use Rattle.calls.proofs.Puts.{none_eight, word_more}

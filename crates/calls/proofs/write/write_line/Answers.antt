@@ -1,6 +1,5 @@
 use Rattle.std.proofs.Common.{◌≡◌, ◌+◌, ◌≤◌, length, sym, ap, ◌∙◌, arith}
-use lib.Seq.{sets}
-use Rattle.calls.specs.Replies.{goes_out, bytes_of, Wrote}
+use Rattle.calls.specs.Replies.{goes_out, bytes_of}
 use Rattle.calls.specs.Lines.{framed}
 use Rattle.calls.proofs.Puts.{wrote_some, line_put, line_size}
 use Rattle.calls.proofs.write.write_line.Goals as goal

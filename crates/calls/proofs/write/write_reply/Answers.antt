@@ -1,4 +1,4 @@
-use Rattle.std.proofs.Common.{◌≡◌, sym, ap, ◌∙◌, arith}
+use Rattle.std.proofs.Common.{sym, arith}
 use Rattle.calls.proofs.Puts.{wrote_some}
 use Rattle.calls.proofs.write.write_reply.Goals as goal
 

@@ -1,6 +1,6 @@
-use Rattle.std.proofs.Common.{◌≡◌, ℕ, suc, ◌+◌, ◌-◌, ◌*◌, ◌/◌, [], ◌∷◌, ◌++◌, length, take, drop, sym, refl, ap, ◌∙◌, subst, arith, length-append, length-take-le}
+use Rattle.std.proofs.Common.{◌≡◌, ℕ, ◌+◌, ◌-◌, ◌*◌, ◌/◌, [], ◌∷◌, ◌++◌, length, take, drop, sym, ap, ◌∙◌, subst, arith, length-append, length-take-le}
 use Rattle.std.proofs.lemmas.Result.{err_from_is_err_and}
-use Rattle.plans.specs.Plan.{Expr, Lit, Var, Not, expr_size}
+use Rattle.plans.specs.Plan.{Lit, Var, Not, expr_size}
 use Rattle.plans.specs.Flat.{code_of}
 use Rattle.plans.proofs.Drafts.{code_length}
 use Rattle.text.specs.Lexer.{Lexed, both}

@@ -1,13 +1,9 @@
-use Rattle.std.proofs.Common.{◌≡◌, ℕ, suc, ◌+◌, ◌-◌, ◌*◌, ◌/◌, ◌≤◌, List, [], ◌∷◌, ◌++◌, length, take, sym, refl, ap, ◌∙◌, subst, le_refl, arith}
+use Rattle.std.proofs.Common.{take, le_refl, arith}
 use Rattle.std.proofs.lemmas.Result.{err_from_is_err_and}
-use Rattle.plans.specs.Plan.{Expr, Stmt, Set}
-use Rattle.plans.specs.Flat.{draft_stmt}
-use Rattle.text.specs.Token.{got}
-use Rattle.text.specs.Ahead.{ahead}
+use Rattle.plans.specs.Plan.{Set}
 use Rattle.reading.specs.Tokens.{one_variable, one_same}
-use Rattle.reading.specs.Statements.{whole_expr, expr_then, set_behind}
-use Rattle.reading.proofs.Leveled.{no_room}
-use Rattle.reading.proofs.Steps.{step_took, step_bar, step_bar_first, step_refused, end_took, whole_read, further_onwards, onwards_more, with_words, with_bar, taken_all, set_read, set_draft, set_size}
+use Rattle.reading.specs.Statements.{expr_then, set_behind}
+use Rattle.reading.proofs.Steps.{step_bar, step_refused, onwards_more, set_read, set_draft, set_size}
 use Rattle.reading.proofs.heads.assignment.Goals as goal
 
 pub returns-in_err-v : goal.returns-in_err-v

@@ -1,13 +1,7 @@
-use Rattle.std.proofs.Common.{◌≡◌, ℕ, suc, ◌+◌, ◌-◌, ◌*◌, ◌/◌, ◌≤◌, List, [], ◌∷◌, ◌++◌, length, take, sym, refl, ap, ◌∙◌, subst, le_refl, arith}
-use Rattle.std.proofs.lemmas.Result.{err_from_is_err_and}
-use Rattle.plans.specs.Plan.{Expr, Stmt, Set}
-use Rattle.plans.specs.Flat.{draft_stmt}
-use Rattle.text.specs.Token.{got}
-use Rattle.text.specs.Ahead.{ahead}
-use Rattle.reading.specs.Tokens.{one_variable, one_same}
-use Rattle.reading.specs.Statements.{whole_expr, expr_then, set_behind}
+use Rattle.std.proofs.Common.{◌+◌, take, le_refl, arith}
+use Rattle.reading.specs.Statements.{whole_expr}
 use Rattle.reading.proofs.Leveled.{no_room}
-use Rattle.reading.proofs.Steps.{step_took, step_bar, step_bar_first, step_refused, end_took, whole_read, further_onwards, onwards_more, with_words, with_bar, taken_all, set_read, set_draft, set_size}
+use Rattle.reading.proofs.Steps.{whole_read, further_onwards, taken_all}
 use Rattle.reading.proofs.heads.headed.Goals as goal
 
 pub returns-then-out-len-lt4 : goal.returns-then-out-len-lt4

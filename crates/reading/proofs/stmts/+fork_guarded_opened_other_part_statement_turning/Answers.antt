@@ -1,12 +1,12 @@
-use Rattle.std.proofs.Common.{◌≡◌, ℕ, suc, ◌+◌, ◌-◌, ◌*◌, ◌/◌, ◌≤◌, List, [], ◌∷◌, ◌++◌, length, take, drop, sym, refl, ap, ◌∙◌, subst, le_refl, arith, length-take-le}
+use Rattle.std.proofs.Common.{◌≡◌, ℕ, ◌+◌, ◌-◌, List, ◌++◌, length, take, drop, sym, refl, ◌∙◌, subst, le_refl, arith, length-take-le}
 use Rattle.std.proofs.lemmas.Result.{err_from_is_err_and}
-use Rattle.plans.specs.Plan.{Expr, Stmt, Sleep, Return, If, While, Guard, expr_size, size_of}
+use Rattle.plans.specs.Plan.{Sleep, Return, If, While, Guard, expr_size, size_of}
 use Rattle.plans.specs.Flat.{code_of, draft_stmt, draft_of}
 use Rattle.plans.proofs.Drafts.{code_length, draft_length}
-use Rattle.text.specs.Token.{SET, SLEEP, IF, WHILE, GUARD, RETURN, FAIL, BEGIN, ELSE, END, got}
+use Rattle.text.specs.Token.{SET, SLEEP, IF, WHILE, GUARD, RETURN, FAIL, BEGIN, ELSE}
 use Rattle.text.specs.Ahead.{ahead}
 use Rattle.reading.specs.Tokens.{one_key}
-use Rattle.reading.specs.Statements.{expr_then, set_at, closed_at, opened_at, other_at, if_at, while_at, guard_at}
+use Rattle.reading.specs.Statements.{expr_then, set_at, closed_at, opened_at, if_at, while_at, guard_at}
 use Rattle.reading.proofs.Taking.{stop_end}
 use Rattle.reading.proofs.Steps.{step_refused, onwards_more}
 use Rattle.reading.proofs.Stated.{opened_bar, opened_open, opened_took, other_read, if_bar_condition, if_bar_first, if_bar_other, while_bar_condition, while_bar_body, guard_bar_first, guard_bar_other, if_took, while_took, guard_took, if_words, while_words, guard_words, no_room_part, long, by_key_lem, by_variable, no_statement, begins_set, begins_sleep, begins_if, begins_while, begins_guard, begins_return, begins_fail, begins_variable_lem, at_token, set_is, sleep_is, if_is, while_is, guard_is, return_is, fail_is, part_end, going, part_bar_first, sleep_draft, sleep_size, return_draft, return_size, fail_at, failure_onwards, failure_read, end_read, part_read, not_stop}

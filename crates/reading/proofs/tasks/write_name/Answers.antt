@@ -1,4 +1,4 @@
-use Rattle.std.proofs.Common.{◌≡◌, ℕ, ◌+◌, List, ◌++◌, length, take, drop, set, sym, refl, ap, ◌∙◌, subst, add-zero, arith, take-append-drop}
+use Rattle.std.proofs.Common.{◌≡◌, ℕ, ◌+◌, List, ◌++◌, take, drop, set, sym, ap, ◌∙◌, add-zero, arith, take-append-drop}
 use Rattle.std.proofs.lemmas.List.{take_all}
 use Rattle.plans.specs.Flat.{padded}
 use Rattle.plans.proofs.Drafts.{padded_length}

@@ -1,8 +1,7 @@
-use Rattle.std.proofs.Common.{◌≡◌, ℕ, ◌-◌, length, take, drop, sym, refl, ap, ◌∙◌, subst}
-use Rattle.text.specs.Ahead.{ahead, means, taken, stops}
-use Rattle.text.specs.Lexer.{Lexed, both}
+use Rattle.std.proofs.Common.{◌-◌, length, take, drop, ap, ◌∙◌}
+use Rattle.text.specs.Ahead.{ahead, means, taken}
+use Rattle.text.specs.Lexer.{both}
 use Rattle.text.specs.declared.Token.{Token}
-use Rattle.text.specs.declared.Token.TheVariants as is
 use Rattle.reading.proofs.Taking.{stop_end, onward, name_yes, name_no}
 use Rattle.reading.proofs.tokens.name.Goals as goal
 

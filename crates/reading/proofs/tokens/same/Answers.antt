@@ -1,8 +1,5 @@
-use Rattle.std.proofs.Common.{◌≡◌, ℕ, ◌-◌, length, take, drop, sym, refl, ap, ◌∙◌, subst}
-use Rattle.text.specs.Ahead.{ahead, means, taken, stops}
-use Rattle.text.specs.Lexer.{Lexed, both}
-use Rattle.text.specs.declared.Token.{Token}
-use Rattle.text.specs.declared.Token.TheVariants as is
+use Rattle.std.proofs.Common.{◌-◌, length, take, drop, sym, ◌∙◌}
+use Rattle.text.specs.Ahead.{ahead}
 use Rattle.reading.proofs.Taking.{stop_end, onward, same_yes, same_no}
 use Rattle.reading.proofs.tokens.same.Goals as goal
 

@@ -1,7 +1,7 @@
-use Rattle.std.proofs.Common.{◌/◌, ◌%◌, [], ◌∷◌, ◌++◌, length, vec_items}
-use Rattle.calls.specs.Bytes.{two_bytes, four_bytes, eight_bytes, all_eight, all_four}
-use Rattle.calls.specs.Raw.{raw_bytes, short_bytes, long_bytes, bit}
-use Rattle.scripts.proofs.Joins.{joins, first}
+use Rattle.std.proofs.Common.{◌/◌, ◌%◌, vec_items}
+use Rattle.calls.specs.Bytes.{four_bytes}
+use Rattle.calls.specs.Raw.{raw_bytes}
+use Rattle.scripts.proofs.Joins.{joins}
 use Rattle.scripts.proofs.bytes.put_eight.Goals as goal
 
 pub returns : goal.returns

@@ -1,4 +1,4 @@
-use Rattle.std.proofs.Common.{◌≡◌, ◌++◌, vec_items, sym, refl, ap, ◌∙◌, arith, take_all}
+use Rattle.std.proofs.Common.{◌++◌, vec_items, ap, ◌∙◌, arith, take_all}
 use Rattle.calls.specs.Bytes.{all_four}
 use Rattle.scripts.proofs.Joins.{no_four, more_four}
 use Rattle.scripts.proofs.bytes.put_kinds.Goals as goal

@@ -1,7 +1,6 @@
-use Rattle.std.proofs.Common.{◌/◌, ◌%◌, [], ◌∷◌, ◌++◌, length, vec_items}
-use Rattle.calls.specs.Bytes.{two_bytes, four_bytes, eight_bytes, all_eight, all_four}
-use Rattle.calls.specs.Raw.{raw_bytes, short_bytes, long_bytes, bit}
-use Rattle.scripts.proofs.Joins.{joins, first}
+use Rattle.std.proofs.Common.{[], ◌∷◌, length, vec_items}
+use Rattle.calls.specs.Raw.{raw_bytes}
+use Rattle.scripts.proofs.Joins.{joins}
 use Rattle.scripts.proofs.bytes.put_short.Goals as goal
 
 pub returns : goal.returns

@@ -1,7 +1,7 @@
-use Rattle.std.proofs.Common.{◌/◌, ◌%◌, [], ◌∷◌, ◌++◌, length, vec_items, ap, ◌∙◌}
+use Rattle.std.proofs.Common.{[], ◌∷◌, ◌++◌, vec_items, ap, ◌∙◌}
 use Rattle.plans.proofs.Evals.{bool_byte_is}
-use Rattle.calls.specs.Bytes.{two_bytes, four_bytes, eight_bytes, all_eight, all_four}
-use Rattle.calls.specs.Raw.{raw_bytes, short_bytes, long_bytes, bit}
+use Rattle.calls.specs.Bytes.{two_bytes, eight_bytes}
+use Rattle.calls.specs.Raw.{raw_bytes, bit}
 use Rattle.scripts.proofs.Joins.{joins, first}
 use Rattle.scripts.proofs.bytes.report.Goals as goal
 

@@ -1,6 +1,6 @@
-use Rattle.std.proofs.Common.{◌/◌, ◌%◌, [], ◌∷◌, ◌++◌, length, vec_items}
-use Rattle.calls.specs.Bytes.{two_bytes, four_bytes, eight_bytes, all_eight, all_four}
-use Rattle.calls.specs.Raw.{raw_bytes, short_bytes, long_bytes, bit}
+use Rattle.std.proofs.Common.{[], ◌∷◌, ◌++◌, length, vec_items}
+use Rattle.calls.specs.Bytes.{all_eight}
+use Rattle.calls.specs.Raw.{raw_bytes, short_bytes, long_bytes}
 use Rattle.scripts.proofs.Joins.{joins, first}
 use Rattle.scripts.proofs.bytes.start.Goals as goal
 

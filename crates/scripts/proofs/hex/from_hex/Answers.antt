@@ -1,4 +1,4 @@
-use Rattle.std.proofs.Common.{◌≡◌, ◌+◌, ◌*◌, length, drop, sym, refl, ap, ◌∙◌, arith}
+use Rattle.std.proofs.Common.{◌+◌, ◌*◌, drop, sym, ap, ◌∙◌, arith}
 use Rattle.scripts.specs.Hex.{bytes_of}
 use Rattle.scripts.proofs.Hexes.{before, odd_none, hex_more, none_high, none_low, hex_end}
 use Rattle.scripts.proofs.hex.from_hex.Goals as goal

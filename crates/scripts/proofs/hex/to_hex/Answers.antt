@@ -1,4 +1,4 @@
-use Rattle.std.proofs.Common.{◌≡◌, sym, refl, ap, ◌∙◌, arith, take_all}
+use Rattle.std.proofs.Common.{sym, ap, ◌∙◌, arith, take_all}
 use Rattle.scripts.specs.Hex.{text_of}
 use Rattle.scripts.proofs.Hexes.{text_none, text_next}
 use Rattle.scripts.proofs.hex.to_hex.Goals as goal

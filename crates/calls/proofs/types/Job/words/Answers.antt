@@ -1,4 +1,4 @@
-use Rattle.std.proofs.Common.{◌≡◌, ◌≤◌, length, sym, arith, take_all, rules}
+use Rattle.std.proofs.Common.{◌≤◌, length, sym, arith, take_all, rules}
 use Rattle.calls.proofs.types.Job.words.Goals as goal
 
 pub returns : goal.returns

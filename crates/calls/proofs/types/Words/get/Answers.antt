@@ -1,4 +1,4 @@
-use Rattle.std.proofs.Common.{◌≡◌, ◌/◌, ◌<◌, ◌≤◌, length, sym, ◌∙◌, arith}
+use Rattle.std.proofs.Common.{◌/◌, length, sym, ◌∙◌, arith}
 use Rattle.calls.proofs.Many.{length_eights, get_d_eights, get_d_past}
 use Rattle.calls.proofs.types.Words.get.Goals as goal
 
