@@ -1,13 +1,12 @@
 -- What runs of words cost.
 -- Assumes nothing.
-use mathlib.Core.Path.{◌≡◌, refl, sym, ap, subst, ◌∙◌}
+use mathlib.Core.Path.{◌≡◌, refl, ap}
 use mathlib.Core.List.{List, [], ◌∷◌}
-use Prim.Native.Nat.{ℕ, zero, suc, ◌+◌, ◌-◌, ◌*◌, ◌/◌, ◌%◌, ◌<◌, ◌≤◌}
+use Prim.Native.Nat.{ℕ, zero, suc, ◌+◌}
 use native.Mathlib.Omega.{arith}
 use lib.ListN.{length}
-use Rattle.device.specs.Lines.{Work, yields, load, store, push, fence}
-use Rattle.device.specs.Does.{bind, loop_from}
-use Rattle.device.specs.Costs.{Costs, Any, c_end, c_load, c_store, c_push, c_fence}
+use Rattle.device.specs.Lines.{yields}
+use Rattle.device.specs.Costs.{Costs, Any, c_end, c_load, c_store, c_push}
 use Rattle.device.proofs.Costs.{costs_more, costs_bind, costs_loop}
 use Rattle.blocks.specs.Works.{load_via, store_via, push_turn, push_via, save_via}
 use Rattle.blocks.specs.Runs.{RunsCost}

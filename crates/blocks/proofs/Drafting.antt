@@ -1,20 +1,20 @@
 -- Such runs, loaded and saved while a call drafts.
 -- Assumes nothing.
-use mathlib.Core.Path.{◌≡◌, refl, sym, ap, subst, ◌∙◌}
-use mathlib.Core.Bool.{Bool, true, false}
-use mathlib.Core.List.{List, [], ◌∷◌}
-use Prim.Native.Nat.{ℕ, zero, suc, ◌+◌, ◌-◌, ◌*◌, ◌/◌, ◌%◌, ◌<◌, ◌≤◌}
+use mathlib.Core.Path.{◌≡◌, refl, sym, subst, ◌∙◌}
+use mathlib.Core.Bool.{false}
+use mathlib.Core.List.{List}
+use Prim.Native.Nat.{ℕ, ◌*◌, ◌/◌, ◌<◌, ◌≤◌}
 use native.Mathlib.Omega.{arith}
 use lib.Dec.{eqb}
 use lib.ListN.{length}
 use Rattle.device.specs.Lines.{Lines, seen}
 use Rattle.device.specs.Safe.{Safe}
-use Rattle.device.specs.Images.{Image, At, Agree, All, None}
+use Rattle.device.specs.Images.{Image}
 use Rattle.device.specs.Flips.{Amid}
 use Rattle.words.specs.Runs.{Small, Drafting}
 use Rattle.words.proofs.Drafting.{drafting_amid}
 use Rattle.blocks.specs.Works.{load_via, save_via}
-use Rattle.blocks.specs.Runs.{read_via, put_via, Each, Runs, Reads}
+use Rattle.blocks.specs.Runs.{read_via, put_via, Runs, Reads}
 use Rattle.blocks.proofs.Runs.{reads_ext, reads_puts, puts_line, safe_load_via, safe_save_via}
 
 module _ {C : ℕ → Type 0} {g h : Image} {m : Lines} (d : Drafting C g h m) where

@@ -1,20 +1,19 @@
 -- Runs of words in an image, and that loading, storing and saving them is safe.
 -- Assumes nothing.
 use mathlib.Core.Path.{◌≡◌, refl, sym, ap, ap₂, subst, ◌∙◌}
-use mathlib.Core.Logic.{◌⊎◌, inl, inr}
-use mathlib.Core.Bool.{Bool, true, false, cond}
-use mathlib.Core.List.{List, [], ◌∷◌, ◌++◌}
-use Prim.Native.Nat.{ℕ, zero, suc, ◌+◌, ◌-◌, ◌*◌, ◌/◌, ◌%◌, ◌<◌, ◌≤◌}
+use mathlib.Core.Bool.{Bool, true, false}
+use mathlib.Core.List.{List, [], ◌∷◌}
+use Prim.Native.Nat.{ℕ, zero, suc, ◌+◌, ◌*◌, ◌/◌, ◌%◌, ◌<◌, ◌≤◌}
 use native.Mathlib.Omega.{arith}
 use lib.Dec.{eqb}
 use lib.ListN.{length}
-use borrow.Author.Tests.{eqb-true, eqb-false, eq-eqb, ne_eqb, both_ways}
-use Rattle.device.specs.Lines.{Lines, seen, stored, pushed_back, fenced, fresh_lines, Left, Work, yields, load, store, push, fence}
-use Rattle.device.specs.Does.{bind, loop_from}
-use Rattle.device.specs.Safe.{Safe, s_end, s_load, s_store, s_push, s_fence}
-use Rattle.device.specs.Images.{Image, upd, All, None, At, Back}
+use borrow.Author.Tests.{eqb-true, eqb-false, ne_eqb}
+use Rattle.device.specs.Lines.{Lines, seen, stored, pushed_back, yields}
+use Rattle.device.specs.Does.{loop_from}
+use Rattle.device.specs.Safe.{Safe, s_end, s_load, s_store, s_push}
+use Rattle.device.specs.Images.{Image, upd, All, None, At}
 use Rattle.device.proofs.Safe.{safe_bind, safe_more}
-use Rattle.device.proofs.Image.{upd_line, upd_same, upd_word, at_less, at_store, at_push, at_settled, at_left, at_fresh}
+use Rattle.device.proofs.Image.{upd_line, upd_same, upd_word, at_less, at_store, at_push}
 use Rattle.device.proofs.Loops.{safe_loop}
 use Rattle.blocks.specs.Works.{load_via, store_via, push_turn, push_via, save_via}
 use Rattle.words.specs.Runs.{Small}

@@ -1,14 +1,14 @@
 -- One turn of the loops that load and store words.
 -- Assumes nothing.
 use mathlib.Core.Path.{◌≡◌, refl, sym, ap, subst, ◌∙◌}
-use mathlib.Core.List.{List, [], ◌∷◌, ◌++◌, append-nil, append_assoc}
+use mathlib.Core.List.{List, [], ◌∷◌, ◌++◌, append-nil}
 use Prim.Native.Nat.{ℕ, zero, suc, ◌+◌, ◌-◌, ◌/◌, ◌%◌, ◌<◌, ◌≤◌}
 use native.Mathlib.Numerals.{add-one}
 use native.Mathlib.Omega.{arith}
 use lib.ListN.{length, get_or, set, take, drop}
 use lib.Seq.{drop-cons, take-suc-set, take_all, append_snoc}
-use Rattle.device.specs.Lines.{Work, yields, load, store, push, fence}
-use Rattle.device.specs.Does.{Op, Loaded, Stored, Pushed, Fenced, bind, Did, d_end, d_load, d_store, d_push, d_fence, Leads}
+use Rattle.device.specs.Lines.{Work, yields}
+use Rattle.device.specs.Does.{Op, Loaded, Stored, bind, Did, d_end, d_load, d_store, Leads}
 use Rattle.device.proofs.Did.{did_bind}
 use Rattle.blocks.specs.Works.{load_via, store_via}
 

@@ -1,13 +1,13 @@
 -- Such runs in an image, and what loading and saving them does.
 -- Assumes nothing.
-use Rattle.std.specs.Prelude.{◌≡◌, ◌⊎◌, true, false, List, [], ◌∷◌, ℕ, zero, suc, ◌+◌, ◌*◌, ◌/◌, ◌%◌, ◌<◌, ◌≤◌, eqb, length}
-use Rattle.device.specs.Lines.{Lines, Work}
+use Rattle.std.specs.Prelude.{◌≡◌, false, List, [], ◌∷◌, ℕ, zero, suc, ◌+◌, ◌*◌, ◌/◌, ◌%◌, ◌<◌, ◌≤◌, eqb, length}
+use Rattle.device.specs.Lines.{Lines}
 use Rattle.device.specs.Safe.{Safe}
-use Rattle.device.specs.Images.{Image, upd, All, None, At, Agree}
+use Rattle.device.specs.Images.{Image, upd}
 use Rattle.device.specs.Flips.{Amid}
 use Rattle.device.specs.Costs.{Costs, Any}
 use Rattle.words.specs.Runs.{Small, Drafting}
-use Rattle.blocks.specs.Works.{load_via, store_via, push_via, save_via}
+use Rattle.blocks.specs.Works.{load_via, save_via}
 
 -- n words of an image, from word i of what stands in the lines `at`
 unfoldable pub read_via : Image → (at : ℕ → ℕ) → (i n : ℕ) → List ℕ

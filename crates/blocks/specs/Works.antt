@@ -1,7 +1,7 @@
 -- Runs of words in lines that need not be neighbours, as work.
 -- Assumes nothing.
-use Rattle.std.specs.Prelude.{◌≡◌, cond, List, [], ◌∷◌, ℕ, zero, suc, ◌+◌, ◌-◌, ◌*◌, ◌/◌, ◌%◌, ◌<◌, ◌≤◌, ltb, length, get_or}
-use Rattle.device.specs.Lines.{Work, yields, load, store, push, fence}
+use Rattle.std.specs.Prelude.{cond, List, [], ◌∷◌, ℕ, zero, suc, ◌+◌, ◌-◌, ◌*◌, ◌/◌, ◌%◌, ltb, get_or}
+use Rattle.device.specs.Lines.{Work, yields, load, store, push}
 use Rattle.device.specs.Does.{bind, loop_from}
 
 -- a block is 128 lines, so 1,024 words; the first begins behind 1 MiB

@@ -44,12 +44,12 @@ fn line_in(total: u64, blocks: &[u64], line: usize) -> u64
 
 // Loads words from what stands in the blocks, as many as `out` has.
 pub fn load_blocks<D: Device>(dev: &mut D, total: u64, blocks: &[u64], out: &mut [u64])
-    requires fits { 16384 + 128 * total ≤ size dev.old }
+    requires fits { 16384 + 128 * total ≤ D.size dev.old }
     requires some { 0 < total }
     requires few { total < 2 ^ 50 }
     requires within { length out.old ≤ 1024 * length blocks.now }
-    ensures did { Did step (load_via (line_in total blocks.now) 0 (length out.old)) dev.old out.new dev.new }
-    ensures stays { size dev.new ≡ size dev.old }
+    ensures did { Did D.step (load_via (line_in total blocks.now) 0 (length out.old)) dev.old out.new dev.new }
+    ensures stays { D.size dev.new ≡ D.size dev.old }
 {
     for i in 0..out.len() {
         let line = line_in(total, blocks, i / 8);
@@ -59,12 +59,12 @@ pub fn load_blocks<D: Device>(dev: &mut D, total: u64, blocks: &[u64], out: &mut
 
 // Stores the words into the blocks.
 fn store_blocks<D: Device>(dev: &mut D, total: u64, blocks: &[u64], words: &[u64])
-    requires fits { 16384 + 128 * total ≤ size dev.old }
+    requires fits { 16384 + 128 * total ≤ D.size dev.old }
     requires some { 0 < total }
     requires few { total < 2 ^ 50 }
     requires within { length words.now ≤ 1024 * length blocks.now }
-    ensures did { Did step (store_via (line_in total blocks.now) 0 words.now) dev.old tt dev.new }
-    ensures stays { size dev.new ≡ size dev.old }
+    ensures did { Did D.step (store_via (line_in total blocks.now) 0 words.now) dev.old tt dev.new }
+    ensures stays { D.size dev.new ≡ D.size dev.old }
 {
     for i in 0..words.len() {
         let line = line_in(total, blocks, i / 8);
@@ -74,12 +74,12 @@ fn store_blocks<D: Device>(dev: &mut D, total: u64, blocks: &[u64], words: &[u64
 
 // Pushes the first `count` lines of the blocks.
 fn push_blocks<D: Device>(dev: &mut D, total: u64, blocks: &[u64], count: usize)
-    requires fits { 16384 + 128 * total ≤ size dev.old }
+    requires fits { 16384 + 128 * total ≤ D.size dev.old }
     requires some { 0 < total }
     requires few { total < 2 ^ 50 }
     requires within { count ≤ 128 * length blocks.now }
-    ensures did { Did step (push_via (line_in total blocks.now) count) dev.old tt dev.new }
-    ensures stays { size dev.new ≡ size dev.old }
+    ensures did { Did D.step (push_via (line_in total blocks.now) count) dev.old tt dev.new }
+    ensures stays { D.size dev.new ≡ D.size dev.old }
 {
     for i in 0..count {
         let line = line_in(total, blocks, i);
@@ -89,12 +89,12 @@ fn push_blocks<D: Device>(dev: &mut D, total: u64, blocks: &[u64], count: usize)
 
 // Stores the words into the blocks, and pushes the lines that hold them.
 pub fn save_blocks<D: Device>(dev: &mut D, total: u64, blocks: &[u64], words: &[u64])
-    requires fits { 16384 + 128 * total ≤ size dev.old }
+    requires fits { 16384 + 128 * total ≤ D.size dev.old }
     requires some { 0 < total }
     requires few { total < 2 ^ 50 }
     requires within { length words.now ≤ 1024 * length blocks.now }
-    ensures did { Did step (save_via (line_in total blocks.now) ((length words.now + 7) / 8) words.now) dev.old tt dev.new }
-    ensures stays { size dev.new ≡ size dev.old }
+    ensures did { Did D.step (save_via (line_in total blocks.now) ((length words.now + 7) / 8) words.now) dev.old tt dev.new }
+    ensures stays { D.size dev.new ≡ D.size dev.old }
 {
     store_blocks(dev, total, blocks, words);
     let count = words.len() / 8 + (words.len() % 8 + 7) / 8;

@@ -1,6 +1,5 @@
 -- Turns of the loops that mark and choose blocks. Assumes nothing.
-use Rattle.std.proofs.Common.{◌≡◌, ℕ, zero, suc, ◌+◌, ◌-◌, ◌*◌, ◌<◌, ◌≤◌, min, Bool, true, false, cond, eqb, leb, List, [], ◌∷◌, ◌++◌, length, get_or, take, drop, set, replicate, Some, None, Option, sym, refl, ap, ◌∙◌, subst, append-nil, add-one, arith, length-set, take-append-drop, length-take, length-take-le, drop-cons, take-suc-set, eq-eqb, ne_eqb, le-leb}
-use lib.ListN.{length-replicate}
+use Rattle.std.proofs.Common.{◌≡◌, ℕ, zero, suc, ◌+◌, ◌-◌, ◌<◌, ◌≤◌, min, cond, List, [], ◌∷◌, ◌++◌, length, get_or, take, drop, set, replicate, Some, None, sym, refl, ap, ◌∙◌, subst, append-nil, add-one, arith, length-set, take-append-drop, length-take, length-take-le, drop-cons, take-suc-set, eq-eqb, ne_eqb, le-leb}
 use lib.Seq.{append_snoc}
 use borrow.Author.Tests.{lt-leb}
 use Rattle.store.specs.Layout.{block_at}

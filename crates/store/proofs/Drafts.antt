@@ -1,27 +1,25 @@
 -- Drafts: pages saved where they do not count, and the flip that makes them count. Assumes nothing.
-use Rattle.std.proofs.Common.{◌≡◌, ℕ, zero, suc, ◌+◌, ◌-◌, ◌*◌, ◌/◌, ◌%◌, ◌<◌, ◌≤◌, min, Bool, true, false, cond, eqb, ltb, ◌⊎◌, List, [], ◌∷◌, length, get_or, sym, refl, ap, ◌∙◌, subst, inl, inr, arith, eq-eqb, ne_eqb, eqb-true}
+use Rattle.std.proofs.Common.{◌≡◌, ℕ, ◌+◌, ◌-◌, ◌*◌, ◌/◌, ◌%◌, ◌<◌, ◌≤◌, Bool, true, false, cond, eqb, ◌⊎◌, List, length, sym, refl, ap, ◌∙◌, subst, inl, arith, ne_eqb, eqb-true}
 use borrow.Author.Tests.{eqb-false}
-use Rattle.device.specs.Lines.{Lines, seen, Left, Work, yields}
-use Rattle.device.specs.Does.{bind}
-use Rattle.device.specs.Safe.{Safe, s_end, s_load}
+use Rattle.device.specs.Lines.{Lines, Left}
+use Rattle.device.specs.Safe.{Safe}
 use Rattle.device.specs.Images.{Image, upd, All, None, At, Agree}
 use Rattle.device.specs.Flips.{commit_work, Rests, Amid}
 use Rattle.device.proofs.Safe.{safe_bind, safe_more}
-use Rattle.device.proofs.Image.{upd_line, upd_same, at_left, at_fresh}
+use Rattle.device.proofs.Image.{upd_line, upd_same, at_left}
 use Rattle.device.proofs.Commit.{amid_rests}
-use Rattle.words.specs.Runs.{read_from, puts, Small, Drafting, Apart}
-use Rattle.words.specs.Works.{load_words, save_words}
+use Rattle.words.specs.Runs.{read_from, puts, Small, Drafting}
 use Rattle.words.proofs.Runs.{reads_length, puts_line as words-line}
-use Rattle.words.proofs.Drafting.{drafting_start, drafting_amid, drafting_load, drafting_save, drafting_flip, reads_here, reads_flipped}
-use Rattle.blocks.specs.Works.{block_line, blocks_in, line_in, load_via, save_via}
+use Rattle.words.proofs.Drafting.{drafting_start, drafting_save, drafting_flip, reads_here, reads_flipped}
+use Rattle.blocks.specs.Works.{block_line, load_via, save_via}
 use Rattle.blocks.specs.Runs.{read_via, put_via, Each}
 use Rattle.blocks.proofs.Runs.{reads_ext, reads_puts, puts_line}
 use Rattle.blocks.proofs.Drafting.{drafting_load_via, drafting_save_via}
-use Rattle.store.specs.Layout.{slots, root_words, root_lines, root_line, entry_words, entry_lines, entry_line, page_words, page_lines, bit_of, turn_at, used_of, pick_of, field, size_at, block_at, blocks_for, page_at, plan_at, Mind, flipped_to}
-use Rattle.store.specs.Works.{rise_work, load_page, load_plan, save_page, flip_to}
-use Rattle.store.specs.Shows.{Used, Sane, Body, Shows, Free, Counts}
+use Rattle.store.specs.Layout.{slots, root_words, root_lines, root_line, entry_line, page_words, page_lines, turn_at, used_of, pick_of, size_at, block_at, blocks_for, page_at, plan_at, Mind, flipped_to}
+use Rattle.store.specs.Works.{save_page, flip_to}
+use Rattle.store.specs.Shows.{Used, Sane, Body, Shows, Counts}
 use Rattle.store.proofs.Turns.{bit_low, turn_same, turn_other, turn_apart, turn_length, turn_small}
-use Rattle.store.proofs.Where.{page_line, plan_line, line_in_lem, On, on_entry, on_page, on_plan, on_low, same_block, body_ext, counts_on, shows_agree}
+use Rattle.store.proofs.Where.{page_line, plan_line, line_in_lem, on_low, same_block, body_ext, shows_agree}
 
 -- what is told of memory at rest
 pub record Told : Type 0 where

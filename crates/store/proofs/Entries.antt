@@ -1,8 +1,7 @@
 -- Entries. Assumes nothing.
-use Rattle.std.proofs.Common.{◌≡◌, ℕ, zero, suc, ◌+◌, ◌-◌, ◌*◌, ◌/◌, ◌%◌, ◌^◌, ◌<◌, ◌≤◌, min, Bool, true, false, cond, eqb, ltb, List, [], ◌∷◌, length, get_or, take, drop, set, sym, refl, ap, ◌∙◌, subst, add-one, arith, length-drop, length-set, length-take-le, get_or-drop, drop-cons, get_or-set_other, get_or-take, get_or-set_same, ext_get_or, le-ltb, lt-ltb, ne_eqb, eqb-true}
-use borrow.Author.Tests.{eqb-false}
+use Rattle.std.proofs.Common.{◌≡◌, ℕ, zero, suc, ◌+◌, ◌-◌, ◌*◌, ◌/◌, ◌%◌, ◌^◌, ◌<◌, ◌≤◌, min, Bool, true, false, cond, eqb, ltb, List, [], ◌∷◌, length, get_or, drop, set, sym, refl, ap, ◌∙◌, subst, add-one, arith, length-drop, length-set, length-take-le, get_or-drop, drop-cons, get_or-set_other, get_or-take, get_or-set_same, ext_get_or, le-ltb, lt-ltb}
 use Rattle.words.specs.Runs.{Small}
-use Rattle.store.specs.Layout.{slots, entry_words, bit_of, next_of, used_of, pick_of, turn_at, field, key_length_at, key_at, block_at}
+use Rattle.store.specs.Layout.{slots, entry_words, bit_of, next_of, field, key_length_at, key_at, block_at}
 use Rattle.store.specs.Entry.{entry_word, list_from, entry_of, put_from, put_entry, bumped}
 
 list_length : (f : ℕ → ℕ) (k n : ℕ) → length (list_from f k n) ≡ n

@@ -1,11 +1,11 @@
 -- Marks of blocks. Assumes nothing.
-use Rattle.std.proofs.Common.{◌≡◌, ℕ, zero, suc, ◌+◌, ◌-◌, ◌*◌, ◌/◌, ◌<◌, ◌≤◌, min, Bool, true, false, cond, eqb, ltb, leb, ◌⊎◌, List, [], ◌∷◌, ◌++◌, length, get_or, take, drop, set, replicate, Some, None, Option, sym, refl, ap, ◌∙◌, subst, inl, inr, arith, length-append, length-set, length-take-le, get_or-set_other, get_or-take, get_or-set_same, ltb-false, ltb-true, lt-ltb, eq-eqb, ne_eqb, eqb-true, le-leb, leb-true}
-use lib.ListN.{length-replicate, get_or-replicate}
-use borrow.Author.Tests.{eqb-false, both_ways}
+use Rattle.std.proofs.Common.{◌≡◌, ℕ, zero, suc, ◌+◌, ◌-◌, ◌*◌, ◌<◌, ◌≤◌, Bool, true, false, cond, eqb, ltb, leb, ◌⊎◌, List, [], ◌∷◌, ◌++◌, length, get_or, take, set, replicate, Some, None, sym, refl, ap, ◌∙◌, subst, inl, inr, arith, length-append, length-set, length-take-le, get_or-set_other, get_or-set_same, ltb-false, ltb-true, eq-eqb, ne_eqb, eqb-true, le-leb, leb-true}
+use lib.ListN.{length-replicate}
+use borrow.Author.Tests.{eqb-false}
 use Rattle.blocks.specs.Works.{blocks_in}
 use Rattle.store.specs.Layout.{used_of, size_at, block_at, blocks_for}
-use Rattle.store.specs.Shows.{Used, Free}
-use Rattle.store.specs.Finds.{weighs, weight_over}
+use Rattle.store.specs.Shows.{Free}
+use Rattle.store.specs.Finds.{weight_over}
 use Rattle.store.specs.Room.{mark_blocks, mark_slot, mark_slots, marked, zeros_from, chosen, looked_at, Chosen, RoomStands}
 
 -- ---- what is marked stays so, and all that should be is

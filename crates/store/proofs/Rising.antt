@@ -1,19 +1,19 @@
 -- Rising. Assumes nothing.
-use Rattle.std.proofs.Common.{◌≡◌, ℕ, zero, suc, ◌+◌, ◌-◌, ◌*◌, ◌/◌, ◌%◌, ◌^◌, ◌<◌, ◌≤◌, min, Bool, true, false, cond, ◌⊎◌, List, [], ◌∷◌, length, get_or, replicate, sym, refl, ap, ◌∙◌, subst, inl, inr, arith}
+use Rattle.std.proofs.Common.{◌≡◌, ℕ, zero, suc, ◌+◌, ◌*◌, ◌/◌, ◌%◌, ◌^◌, ◌<◌, ◌≤◌, List, [], length, get_or, sym, refl, ap, ◌∙◌, subst, arith}
 use native.Mathlib.Nat.{zero-div}
-use Rattle.device.specs.Lines.{Lines, seen, fresh_lines, Left, Work, yields}
+use Rattle.device.specs.Lines.{Lines, seen, fresh_lines, Work, yields}
 use Rattle.device.specs.Does.{bind}
 use Rattle.device.specs.Safe.{Safe, s_end, s_load}
 use Rattle.device.specs.Images.{Image, All, None, At}
-use Rattle.device.proofs.Safe.{safe_bind, safe_more}
+use Rattle.device.proofs.Safe.{safe_bind}
 use Rattle.device.proofs.Image.{at_fresh}
 use Rattle.words.specs.Runs.{read_from, Small}
 use Rattle.words.specs.Works.{load_words}
 use Rattle.words.proofs.Runs.{reads_ext, reads_length, safe_load_words}
-use Rattle.store.specs.Layout.{slots, root_words, root_line, entry_words, entry_line, dir_words, bit_of, next_of, used_of, field, Mind, at_time}
+use Rattle.store.specs.Layout.{slots, root_words, root_line, entry_words, entry_line, dir_words, bit_of, next_of, field, Mind}
 use Rattle.store.specs.Works.{rise_work}
-use Rattle.store.specs.Shows.{Used, Sane, Body, Shows}
-use Rattle.store.proofs.Slots.{SameDir, body_dir}
+use Rattle.store.specs.Shows.{Used, Shows}
+use Rattle.store.proofs.Slots.{body_dir}
 use Rattle.store.proofs.Drafts.{Held}
 
 reads_word : (g : Image) (line i n p : ℕ) → p < n → get_or (read_from g line i n) p 0 ≡ g (line + (i + p) / 8) ((i + p) % 8)

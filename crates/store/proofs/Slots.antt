@@ -1,26 +1,13 @@
 -- Slots that come into use and go out of it. Assumes nothing.
-use Rattle.std.proofs.Common.{◌≡◌, ℕ, zero, suc, ◌+◌, ◌-◌, ◌*◌, ◌/◌, ◌%◌, ◌^◌, ◌<◌, ◌≤◌, min, Bool, true, false, cond, eqb, ltb, ◌⊎◌, List, [], ◌∷◌, length, get_or, set, sym, refl, ap, ◌∙◌, subst, inl, inr, arith, length-set, get_or-set_other, get_or-set_same, eq-eqb, ne_eqb, eqb-true}
-use borrow.Author.Tests.{eqb-false, both_ways}
-use Rattle.device.specs.Lines.{Lines, Left, Work, yields}
-use Rattle.device.specs.Does.{bind}
-use Rattle.device.specs.Safe.{Safe, s_end}
-use Rattle.device.specs.Images.{Image, upd, All, None, At, Agree}
-use Rattle.device.specs.Flips.{Rests, Amid}
-use Rattle.device.proofs.Safe.{safe_bind, safe_more}
-use Rattle.words.specs.Runs.{read_from, puts, Small, Drafting}
-use Rattle.words.specs.Works.{save_words}
-use Rattle.words.proofs.Runs.{puts_line as words-line}
-use Rattle.words.proofs.Drafting.{drafting_save, reads_here}
-use Rattle.blocks.specs.Works.{block_line, blocks_in, line_in, save_via}
-use Rattle.blocks.specs.Runs.{read_via, put_via, Each}
-use Rattle.blocks.proofs.Runs.{reads_ext, reads_puts, puts_line}
-use Rattle.blocks.proofs.Drafting.{drafting_save_via}
-use Rattle.store.specs.Layout.{slots, root_words, entry_words, entry_lines, entry_line, page_words, page_lines, bit_of, turn_at, used_of, pick_of, field, size_at, block_at, blocks_for, page_at, plan_at, Mind}
-use Rattle.store.specs.Shows.{Used, Sane, Body, Shows, Free, Counts}
-use Rattle.store.proofs.Fits.{small_set}
-use Rattle.store.proofs.Turns.{bit_low, turn_same, turn_other, turn_apart, turn_length, turn_small}
-use Rattle.store.proofs.Where.{page_line, plan_line, line_in_lem, On, on_entry, on_page, on_plan, on_low, same_block, body_ext, counts_on}
-use Rattle.store.proofs.Drafts.{Draft}
+use Rattle.std.proofs.Common.{◌≡◌, ℕ, zero, suc, ◌+◌, ◌*◌, ◌/◌, ◌%◌, ◌<◌, ◌≤◌, min, Bool, true, false, cond, eqb, List, ◌∷◌, sym, refl, ap, ◌∙◌, subst, arith, eq-eqb, eqb-true}
+use borrow.Author.Tests.{both_ways}
+use Rattle.device.specs.Images.{Image}
+use Rattle.blocks.specs.Works.{block_line, blocks_in}
+use Rattle.blocks.specs.Runs.{read_via}
+use Rattle.store.specs.Layout.{entry_words, entry_line, page_words, pick_of, field, size_at, block_at, blocks_for, page_at, plan_at}
+use Rattle.store.specs.Shows.{Used, Sane, Body, Free}
+use Rattle.store.proofs.Turns.{bit_low}
+use Rattle.store.proofs.Where.{page_line, plan_line}
 
 -- the same words by other names of the same lines
 pub reads_at : (g : Image) (at at' : ℕ → ℕ) (i n : ℕ) → ((k : ℕ) → k < i + n → at (k / 8) ≡ at' (k / 8)) → read_via g at i n ≡ read_via g at' i n

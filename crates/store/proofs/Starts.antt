@@ -1,21 +1,20 @@
 -- A new flow is written: its entry, its plan and its first page, where nothing counts. Assumes nothing.
-use Rattle.std.proofs.Common.{◌≡◌, ℕ, zero, suc, ◌+◌, ◌-◌, ◌*◌, ◌/◌, ◌%◌, ◌^◌, ◌<◌, ◌≤◌, min, Bool, true, false, cond, eqb, ltb, ◌⊎◌, List, [], ◌∷◌, length, get_or, set, sym, refl, ap, ◌∙◌, subst, inl, inr, arith, eq-eqb, ne_eqb, eqb-true}
-use borrow.Author.Tests.{eqb-false, both_ways}
-use Rattle.device.specs.Lines.{Lines, Work}
+use Rattle.std.proofs.Common.{◌≡◌, ℕ, ◌+◌, ◌*◌, ◌/◌, ◌%◌, ◌<◌, ◌≤◌, min, false, cond, eqb, List, length, get_or, sym, ap, ◌∙◌, subst, arith, ne_eqb}
+use Rattle.device.specs.Lines.{Lines}
 use Rattle.device.specs.Does.{bind}
 use Rattle.device.specs.Safe.{Safe}
-use Rattle.device.specs.Images.{Image, Agree}
+use Rattle.device.specs.Images.{Image}
 use Rattle.device.specs.Flips.{Amid}
 use Rattle.device.proofs.Safe.{safe_bind, safe_more}
-use Rattle.words.specs.Runs.{read_from, puts, Small, Drafting}
+use Rattle.words.specs.Runs.{puts, Small}
 use Rattle.words.proofs.Drafting.{drafting_save, reads_here}
-use Rattle.blocks.specs.Works.{block_line, blocks_in, inside, line_in}
+use Rattle.blocks.specs.Works.{block_line, blocks_in, line_in}
 use Rattle.blocks.specs.Runs.{read_via, put_via, Each}
 use Rattle.blocks.proofs.Runs.{reads_ext, reads_puts, puts_line}
 use Rattle.blocks.proofs.Drafting.{drafting_save_via}
 use Rattle.store.specs.Layout.{slots, root_words, entry_words, entry_lines, entry_line, page_words, page_lines, used_of, pick_of, field, size_at, block_at, page_blocks, plan_blocks, blocks_for, page_at, plan_at, Mind}
 use Rattle.store.specs.Works.{save_entry, save_plan, save_page}
-use Rattle.store.specs.Shows.{Used, Sane, Body, Free, Counts}
+use Rattle.store.specs.Shows.{Used, Free, Counts}
 use Rattle.store.proofs.Where.{page_line, plan_line, line_in_lem, same_block, body_ext, counts_on}
 use Rattle.store.proofs.Drafts.{Draft}
 use Rattle.store.proofs.Slots.{SameDir, body_dir, Comes, body_more}

@@ -1,14 +1,12 @@
 -- Where pages and plans stand, and that what counts is apart from what does not. Assumes nothing.
-use Rattle.std.proofs.Common.{◌≡◌, ℕ, zero, suc, ◌+◌, ◌-◌, ◌*◌, ◌/◌, ◌%◌, ◌<◌, ◌≤◌, min, Bool, true, false, cond, eqb, ltb, ◌⊎◌, List, [], ◌∷◌, length, get_or, take, drop, sym, refl, ap, ◌∙◌, subst, inl, inr, arith, get_or-drop, get_or-take, ltb-false, ltb-true, lt-ltb, eq-eqb, ne_eqb, eqb-true}
-use borrow.Author.Tests.{eqb-false, both_ways}
+use Rattle.std.proofs.Common.{◌≡◌, ℕ, ◌+◌, ◌-◌, ◌*◌, ◌/◌, ◌%◌, ◌<◌, ◌≤◌, Bool, true, false, cond, ltb, List, get_or, take, drop, sym, refl, ap, ◌∙◌, arith, get_or-drop, get_or-take, ltb-true, lt-ltb, eq-eqb, ne_eqb}
+use borrow.Author.Tests.{both_ways}
 use Rattle.device.specs.Images.{Image, Agree}
-use Rattle.words.specs.Runs.{read_from, Small}
 use Rattle.words.proofs.Runs.{reads_ext as words-ext}
 use Rattle.blocks.specs.Works.{block_line, blocks_in, inside, line_in}
-use Rattle.blocks.specs.Runs.{read_via, Each}
 use Rattle.blocks.proofs.Runs.{reads_ext}
-use Rattle.store.specs.Layout.{slots, root_words, root_lines, root_line, entry_words, entry_lines, entry_line, page_words, page_lines, bit_of, used_of, pick_of, field, size_at, block_at, page_blocks, plan_blocks, blocks_for, page_at, plan_at, Mind}
-use Rattle.store.specs.Shows.{Used, Sane, Body, Shows, Free, Counts}
+use Rattle.store.specs.Layout.{root_words, root_line, entry_lines, entry_line, page_words, bit_of, used_of, pick_of, field, size_at, block_at, page_blocks, plan_blocks, blocks_for, page_at, plan_at, Mind}
+use Rattle.store.specs.Shows.{Used, Sane, Body, Shows, Counts}
 use Rattle.store.proofs.Turns.{bit_low}
 
 inside_in : (total b : ℕ) → b < total → inside total b ≡ b

@@ -1,5 +1,5 @@
 -- A new entry, and the directory with it. Assumes nothing.
-use Rattle.std.specs.Prelude.{◌≡◌, ℕ, zero, suc, ◌+◌, ◌-◌, ◌*◌, ◌<◌, ◌≤◌, Bool, true, false, cond, List, [], ◌∷◌, length, ◌==◌, nat_lt, slice_index, slice_set}
+use Rattle.std.specs.Prelude.{ℕ, zero, suc, ◌+◌, ◌-◌, ◌*◌, cond, List, [], ◌∷◌, length, ◌==◌, nat_lt, slice_index, slice_set}
 use Rattle.store.specs.Layout.{next_of}
 
 -- word k of the entry of a flow

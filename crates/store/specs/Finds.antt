@@ -1,5 +1,5 @@
 -- Looking through the slots. Assumes nothing.
-use Rattle.std.specs.Prelude.{◌≡◌, ℕ, zero, suc, ◌+◌, ◌*◌, min, Bool, true, false, cond, not, ◌&&◌, List, [], ◌∷◌, Some, None, Option, ◌==◌}
+use Rattle.std.specs.Prelude.{ℕ, zero, suc, ◌+◌, ◌*◌, Bool, cond, not, ◌&&◌, List, Some, None, Option, ◌==◌}
 use Rattle.plans.specs.Plan.{same_name}
 use Rattle.store.specs.Layout.{used_of, id_at, size_at, key_at}
 

@@ -1,7 +1,7 @@
 -- What stands where in the lasting memory, and how it is read. Every number of the layout stands here.
 -- Assumes nothing.
-use Rattle.std.specs.Prelude.{◌≡◌, ℕ, zero, suc, ◌+◌, ◌-◌, ◌*◌, ◌/◌, ◌%◌, ◌^◌, ◌<◌, ◌≤◌, min, Bool, true, false, cond, List, [], ◌∷◌, length, take, drop, bit_xor, slice_index, slice_set}
-use Rattle.blocks.specs.Works.{block_line, blocks_in, line_in}
+use Rattle.std.specs.Prelude.{ℕ, ◌+◌, ◌-◌, ◌*◌, ◌/◌, ◌%◌, ◌^◌, min, List, take, drop, bit_xor, slice_index, slice_set}
+use Rattle.blocks.specs.Works.{blocks_in, line_in}
 
 -- a slot is a place for one flow
 abbrev pub slots : ℕ

@@ -1,5 +1,5 @@
 -- Which blocks are free, and that there are enough. Assumes nothing.
-use Rattle.std.specs.Prelude.{◌≡◌, ℕ, zero, suc, ◌+◌, ◌-◌, ◌*◌, ◌<◌, ◌≤◌, min, Bool, true, false, cond, List, [], ◌∷◌, ◌++◌, length, take, replicate, Some, None, Option, ◌==◌, nat_le, slice_index, slice_set}
+use Rattle.std.specs.Prelude.{◌≡◌, ℕ, zero, suc, ◌+◌, ◌-◌, ◌*◌, ◌<◌, ◌≤◌, min, cond, List, [], ◌∷◌, ◌++◌, length, take, replicate, Some, None, Option, ◌==◌, nat_le, slice_index, slice_set}
 use Rattle.blocks.specs.Works.{blocks_in}
 use Rattle.store.specs.Layout.{used_of, size_at, block_at, blocks_for}
 use Rattle.store.specs.Shows.{Free}

@@ -1,11 +1,11 @@
 -- The work on the layout. Assumes nothing.
-use Rattle.std.specs.Prelude.{ℕ, zero, suc, ◌+◌, ◌-◌, ◌*◌, ◌/◌, ◌%◌, Bool, true, false, cond, List, [], ◌∷◌, length}
-use Rattle.device.specs.Lines.{Work, yields, load, store, push, fence}
-use Rattle.device.specs.Does.{bind, loop_from}
+use Rattle.std.specs.Prelude.{ℕ, ◌+◌, ◌-◌, ◌*◌, ◌/◌, ◌%◌, List, length}
+use Rattle.device.specs.Lines.{Work, yields, load}
+use Rattle.device.specs.Does.{bind}
 use Rattle.device.specs.Flips.{commit_work}
 use Rattle.words.specs.Works.{load_words, save_words}
-use Rattle.blocks.specs.Works.{blocks_in, line_in, load_via, save_via}
-use Rattle.store.specs.Layout.{root_words, root_lines, root_line, entry_words, entry_lines, entry_line, dir_words, page_words, page_lines, pick_of, size_at, page_at, plan_at, Mind}
+use Rattle.blocks.specs.Works.{load_via, save_via}
+use Rattle.store.specs.Layout.{root_words, root_lines, root_line, entry_lines, entry_line, dir_words, page_words, page_lines, pick_of, size_at, page_at, plan_at, Mind}
 
 -- rising only loads: the root word, the root page that it picks, the directory
 unfoldable pub rise_work : (lines : ℕ) → Work Mind

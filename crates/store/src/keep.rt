@@ -20,11 +20,11 @@ pub const PAGE_WORDS: usize = 128;
 
 // Loads the root word, the root page that it picks, and the directory.
 pub fn rise<D: Device>(dev: &mut D, root: &mut [u64; 40], dir: &mut [u64]) -> u64
-    requires fits { 32768 ≤ size dev.old }
-    requires few { size dev.old ≤ 1099511627776 }
+    requires fits { 32768 ≤ D.size dev.old }
+    requires few { D.size dev.old ≤ 1099511627776 }
     requires long { length dir.old ≡ 98304 }
-    ensures did { Did step (rise_work (size dev.old)) dev.old (record { lines = size dev.old; now = 0; word = result; page = root.new; dir = dir.new }) dev.new }
-    ensures stays { size dev.new ≡ size dev.old }
+    ensures did { Did D.step (rise_work (D.size dev.old)) dev.old (record { lines = D.size dev.old; now = 0; word = result; page = root.new; dir = dir.new }) dev.new }
+    ensures stays { D.size dev.new ≡ D.size dev.old }
 {
     let word = dev.load(0, 0);
     load_words(dev, 1 + word % 2 * 5, root);
@@ -40,13 +40,13 @@ pub fn load_page<D: Device>(
     slot: usize,
     out: &mut [u64],
 )
-    requires fits { 32768 ≤ size dev.old }
-    requires few { size dev.old ≤ 1099511627776 }
+    requires fits { 32768 ≤ D.size dev.old }
+    requires few { D.size dev.old ≤ 1099511627776 }
     requires long { length dir.now ≡ 98304 }
     requires within { slot < 1024 }
     requires whole { length out.old ≡ 128 }
-    ensures did { Did step (load_page (size dev.old) root.now dir.now slot) dev.old out.new dev.new }
-    ensures stays { size dev.new ≡ size dev.old }
+    ensures did { Did D.step (load_page (D.size dev.old) root.now dir.now slot) dev.old out.new dev.new }
+    ensures stays { D.size dev.new ≡ D.size dev.old }
 {
     let total = blocks_in(dev.lines());
     let copy = pick(root, slot);
@@ -56,13 +56,13 @@ pub fn load_page<D: Device>(
 
 // A slot's plan, of which `out` has the length.
 pub fn load_plan<D: Device>(dev: &mut D, dir: &[u64], slot: usize, out: &mut [u64])
-    requires fits { 32768 ≤ size dev.old }
-    requires few { size dev.old ≤ 1099511627776 }
+    requires fits { 32768 ≤ D.size dev.old }
+    requires few { D.size dev.old ≤ 1099511627776 }
     requires long { length dir.now ≡ 98304 }
     requires within { slot < 1024 }
     requires whole { length out.old ≡ 4 * size_at dir.now slot }
-    ensures did { Did step (load_plan (size dev.old) dir.now slot) dev.old out.new dev.new }
-    ensures stays { size dev.new ≡ size dev.old }
+    ensures did { Did D.step (load_plan (D.size dev.old) dir.now slot) dev.old out.new dev.new }
+    ensures stays { D.size dev.new ≡ D.size dev.old }
 {
     let total = blocks_in(dev.lines());
     let blocks = plan_blocks(dir, slot);
@@ -71,14 +71,14 @@ pub fn load_plan<D: Device>(dev: &mut D, dir: &[u64], slot: usize, out: &mut [u6
 
 // Writes a copy of a slot's page, and pushes it.
 pub fn save_page<D: Device>(dev: &mut D, dir: &[u64], slot: usize, copy: usize, words: &[u64])
-    requires fits { 32768 ≤ size dev.old }
-    requires few { size dev.old ≤ 1099511627776 }
+    requires fits { 32768 ≤ D.size dev.old }
+    requires few { D.size dev.old ≤ 1099511627776 }
     requires long { length dir.now ≡ 98304 }
     requires within { slot < 1024 }
     requires one { copy < 2 }
     requires whole { length words.now ≡ 128 }
-    ensures did { Did step (save_page (size dev.old) dir.now slot copy words.now) dev.old tt dev.new }
-    ensures stays { size dev.new ≡ size dev.old }
+    ensures did { Did D.step (save_page (D.size dev.old) dir.now slot copy words.now) dev.old tt dev.new }
+    ensures stays { D.size dev.new ≡ D.size dev.old }
 {
     let total = blocks_in(dev.lines());
     let blocks = page_blocks(dir, slot, copy);
@@ -87,13 +87,13 @@ pub fn save_page<D: Device>(dev: &mut D, dir: &[u64], slot: usize, copy: usize, 
 
 // Writes a new plan into its blocks, and pushes it.
 pub fn save_plan<D: Device>(dev: &mut D, dir: &[u64], slot: usize, words: &[u64])
-    requires fits { 32768 ≤ size dev.old }
-    requires few { size dev.old ≤ 1099511627776 }
+    requires fits { 32768 ≤ D.size dev.old }
+    requires few { D.size dev.old ≤ 1099511627776 }
     requires long { length dir.now ≡ 98304 }
     requires within { slot < 1024 }
     requires short { length words.now ≤ 16384 }
-    ensures did { Did step (save_plan (size dev.old) dir.now slot words.now) dev.old tt dev.new }
-    ensures stays { size dev.new ≡ size dev.old }
+    ensures did { Did D.step (save_plan (D.size dev.old) dir.now slot words.now) dev.old tt dev.new }
+    ensures stays { D.size dev.new ≡ D.size dev.old }
 {
     let total = blocks_in(dev.lines());
     let blocks = plan_blocks(dir, slot);
@@ -102,20 +102,20 @@ pub fn save_plan<D: Device>(dev: &mut D, dir: &[u64], slot: usize, words: &[u64]
 
 // Writes the entry of a slot that is not in use, and pushes it.
 pub fn save_entry<D: Device>(dev: &mut D, slot: usize, entry: &[u64])
-    requires fits { 32768 ≤ size dev.old }
+    requires fits { 32768 ≤ D.size dev.old }
     requires within { slot < 1024 }
     requires whole { length entry.now ≡ 96 }
-    ensures did { Did step (save_entry slot entry.now) dev.old tt dev.new }
-    ensures stays { size dev.new ≡ size dev.old }
+    ensures did { Did D.step (save_entry slot entry.now) dev.old tt dev.new }
+    ensures stays { D.size dev.new ≡ D.size dev.old }
 {
     save_words(dev, 16 + slot as u64 * 12, 12, entry);
 }
 
 // Writes the other root page, and then has it count.
 pub fn commit<D: Device>(dev: &mut D, word: u64, root: &[u64; 40])
-    requires { 32768 ≤ size dev.old }
-    ensures did { Did step (flip_to word root.now) dev.old tt dev.new }
-    ensures stays { size dev.new ≡ size dev.old }
+    requires { 32768 ≤ D.size dev.old }
+    ensures did { Did D.step (flip_to word root.now) dev.old tt dev.new }
+    ensures stays { D.size dev.new ≡ D.size dev.old }
 {
     let other = 1 - word % 2;
     save_words(dev, 1 + other * 5, 5, root);

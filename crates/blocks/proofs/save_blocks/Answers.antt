@@ -13,7 +13,7 @@ returns g c =
     let n = length c.args.words.now in
     let at = line_in c.args.total c.args.blocks.now in
     let e : n / 8 + (n % 8 + 7) / 8 ≡ (n + 7) / 8 = omega arith in
-    let d : Did g.D.Device.step (save_via at ((n + 7) / 8) c.args.words.now) c.args.dev.now tt c.push-blocks.new.dev =
-    did_bind (λ x. push_via at ((n + 7) / 8)) c.store-blocks.ensures.did
-    (subst (λ k. Did g.D.Device.step (push_via at k) c.store-blocks.new.dev tt c.push-blocks.new.dev) e c.push-blocks.ensures.did) in
+    let d : Did g.D.Device.step (save_via at ((n + 7) / 8) c.args.words.now) c.args.dev.now tt c.push_blocks.new.dev =
+    did_bind (λ x. push_via at ((n + 7) / 8)) c.store_blocks.ensures.did
+    (subst (λ k. Did g.D.Device.step (push_via at k) c.store_blocks.new.dev tt c.push_blocks.new.dev) e c.push_blocks.ensures.did) in
     record { did = d; stays = did_size g.met.D.Device.stays d }

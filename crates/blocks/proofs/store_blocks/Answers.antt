@@ -1,6 +1,6 @@
-use mathlib.Core.Path.{◌≡◌, subst, ◌∙◌}
+use mathlib.Core.Path.{subst, ◌∙◌}
 use native.Mathlib.Omega.{arith}
-use Prim.Native.Nat.{◌/◌, ◌%◌}
+use Prim.Native.Nat.{◌%◌}
 use lib.ListN.{get_or}
 use Rattle.device.specs.Does.{Stored}
 use Rattle.blocks.specs.Works.{line_in, store_via}
@@ -13,7 +13,7 @@ loop-i-preserved g c =
     let at = line_in c.args.total c.args.blocks.now in (
       g.met.D.Device.stays _ _ _ c.store.ensures ∙ c.loop-i.invariant.0,
       store_again d.step at c.loop-i.i c.args.words.now (store_via at 0 c.args.words.now) (omega arith)
-          (subst (λ k. d.step c.loop-i.dev (Stored k (c.loop-i.i % 8) (get_or c.args.words.now c.loop-i.i 0)) c.store.new.self) c.line-in-line.ensures.is c.store.ensures)
+          (subst (λ k. d.step c.loop-i.dev (Stored k (c.loop-i.i % 8) (get_or c.args.words.now c.loop-i.i 0)) c.store.new.self) c.line_in-line.ensures.is c.store.ensures)
           c.loop-i.invariant.1,
     )
 

@@ -1,5 +1,5 @@
 use Rattle.std.proofs.Common.{◌≡◌, ◌-◌}
-use Rattle.store.specs.Finds.{first_slot, by_id, by_key, is_free}
+use Rattle.store.specs.Finds.{first_slot, by_key}
 use Rattle.store.proofs.dir.find_key.Given as goal
 
 abbrev pub invariant-loop-slot : goal.invariant-loop-slot

@@ -7,4 +7,4 @@ unfolding key_at
 returns c =
     let s = c.args.slot * 96 + 32 in
     let e : s + c.min-length.result - s ≡ c.min-length.result = omega arith in
-    ap (λ n. take n (drop s c.args.dir.now)) (e ∙ c.min-length.ensures ∙ ap (λ v. min v 64) c.field-at.ensures)
+    ap (λ n. take n (drop s c.args.dir.now)) (e ∙ c.min-length.ensures ∙ ap (λ v. min v 64) c.field_at.ensures)

@@ -1,4 +1,4 @@
-use Rattle.std.proofs.Common.{◌≡◌, ◌+◌, ◌-◌, ◌*◌, take, drop, ap, ◌∙◌, arith}
+use Rattle.std.proofs.Common.{◌≡◌, ◌+◌, ◌-◌, ◌*◌, take, drop, ap, arith}
 use Rattle.store.proofs.Finds.{cut_length}
 use Rattle.store.specs.Layout.{page_blocks}
 use Rattle.store.proofs.dir.page_blocks.Goals as goal

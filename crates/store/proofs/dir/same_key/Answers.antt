@@ -1,5 +1,4 @@
-use Rattle.std.proofs.Common.{◌≡◌, ◌<◌, true, false, ◌&&◌, eqb, length, get_or, drop, sym, ap, ◌∙◌, arith, eq-eqb, ne_eqb}
-use Rattle.plans.specs.Plan.{same_name}
+use Rattle.std.proofs.Common.{◌≡◌, ◌<◌, true, false, eqb, length, get_or, sym, ◌∙◌, arith, eq-eqb, ne_eqb}
 use Rattle.store.proofs.Finds.{same_next, same_end, same_long}
 use Rattle.store.proofs.dir.same_key.Goals as goal
 

@@ -9,5 +9,5 @@ pub returns : goal.returns
 unfolding flip_to
 returns g c =
     let d : Did g.D.Device.step (flip_to c.args.word c.args.root.now) c.args.dev.now tt c.flip.new.dev =
-    did_bind (λ x. commit_work 0 0 (1 - c.args.word % 2)) c.save-words.ensures.did c.flip.ensures.did in
+    did_bind (λ x. commit_work 0 0 (1 - c.args.word % 2)) c.save_words.ensures.did c.flip.ensures.did in
     record { did = d; stays = did_size g.met.D.Device.stays d }

@@ -1,15 +1,15 @@
-use Rattle.std.proofs.Common.{◌≡◌, ◌+◌, ◌-◌, ◌*◌, ◌/◌, ◌%◌, length, refl, ap, ◌∙◌, arith}
+use Rattle.std.proofs.Common.{ap, ◌∙◌}
 use Rattle.blocks.specs.Works.{blocks_in}
 use Rattle.store.specs.Layout.{page_blocks}
 use Rattle.store.specs.Works.{load_page}
-use Rattle.store.proofs.Same.{load_same, save_same}
+use Rattle.store.proofs.Same.{load_same}
 use Rattle.store.proofs.keep.load_page.Goals as goal
 
 pub returns : goal.returns
 unfolding load_page
 returns g c =
-    let total = c.blocks-in-total.ensures ∙ ap blocks_in c.lines.ensures in
+    let total = c.blocks_in-total.ensures ∙ ap blocks_in c.lines.ensures in
     record {
-      did = load_same g.D.Device.step total (c.page-blocks-blocks.ensures.is ∙ ap (page_blocks c.args.dir.now c.args.slot) c.pick-copy.ensures.is) c.requires.whole c.load-blocks.ensures.did;
-      stays = c.load-blocks.ensures.stays;
+      did = load_same g.D.Device.step total (c.page_blocks-blocks.ensures.is ∙ ap (page_blocks c.args.dir.now c.args.slot) c.pick-copy.ensures.is) c.requires.whole c.load_blocks.ensures.did;
+      stays = c.load_blocks.ensures.stays;
     }

@@ -3,4 +3,4 @@ use Rattle.store.proofs.keep.save_entry.Goals as goal
 
 pub returns : goal.returns
 unfolding save_entry
-returns g c = record { did = c.save-words.ensures.did; stays = c.save-words.ensures.stays }
+returns g c = record { did = c.save_words.ensures.did; stays = c.save_words.ensures.stays }

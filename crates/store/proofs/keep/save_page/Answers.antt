@@ -1,16 +1,15 @@
-use Rattle.std.proofs.Common.{◌≡◌, ◌+◌, ◌-◌, ◌*◌, ◌/◌, ◌%◌, length, refl, ap, ◌∙◌, arith}
+use Rattle.std.proofs.Common.{◌≡◌, ◌+◌, ◌/◌, length, ap, ◌∙◌, arith}
 use Rattle.blocks.specs.Works.{blocks_in}
-use Rattle.store.specs.Layout.{page_blocks}
 use Rattle.store.specs.Works.{save_page}
-use Rattle.store.proofs.Same.{load_same, save_same}
+use Rattle.store.proofs.Same.{save_same}
 use Rattle.store.proofs.keep.save_page.Goals as goal
 
 pub returns : goal.returns
 unfolding save_page
 returns g c =
-    let total = c.blocks-in-total.ensures ∙ ap blocks_in c.lines.ensures in
+    let total = c.blocks_in-total.ensures ∙ ap blocks_in c.lines.ensures in
     let n : (length c.args.words.now + 7) / 8 ≡ 16 = omega (arith, c.requires.whole) in
     record {
-      did = save_same g.D.Device.step total c.page-blocks-blocks.ensures.is n c.args.words.now c.save-blocks.ensures.did;
-      stays = c.save-blocks.ensures.stays;
+      did = save_same g.D.Device.step total c.page_blocks-blocks.ensures.is n c.args.words.now c.save_blocks.ensures.did;
+      stays = c.save_blocks.ensures.stays;
     }

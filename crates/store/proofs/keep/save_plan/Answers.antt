@@ -1,15 +1,14 @@
-use Rattle.std.proofs.Common.{◌≡◌, ◌+◌, ◌-◌, ◌*◌, ◌/◌, ◌%◌, length, refl, ap, ◌∙◌, arith}
+use Rattle.std.proofs.Common.{refl, ap, ◌∙◌}
 use Rattle.blocks.specs.Works.{blocks_in}
-use Rattle.store.specs.Layout.{page_blocks}
 use Rattle.store.specs.Works.{save_plan}
-use Rattle.store.proofs.Same.{load_same, save_same}
+use Rattle.store.proofs.Same.{save_same}
 use Rattle.store.proofs.keep.save_plan.Goals as goal
 
 pub returns : goal.returns
 unfolding save_plan
 returns g c =
-    let total = c.blocks-in-total.ensures ∙ ap blocks_in c.lines.ensures in
+    let total = c.blocks_in-total.ensures ∙ ap blocks_in c.lines.ensures in
     record {
-      did = save_same g.D.Device.step total c.plan-blocks-blocks.ensures.is refl c.args.words.now c.save-blocks.ensures.did;
-      stays = c.save-blocks.ensures.stays;
+      did = save_same g.D.Device.step total c.plan_blocks-blocks.ensures.is refl c.args.words.now c.save_blocks.ensures.did;
+      stays = c.save_blocks.ensures.stays;
     }

@@ -1,4 +1,4 @@
-use Rattle.std.proofs.Common.{◌+◌, arith}
+use Rattle.std.proofs.Common.{◌+◌}
 use Rattle.store.proofs.Chooses.{choose_take, choose_skip, choose_full, choose_some, choose_none, choosing_at}
 use Rattle.store.proofs.room.choose.Goals as goal
 use Rattle.store.proofs.room.choose.Goals.{then-count-need+then-marks-b-eq0, else-count-need, else-count-need-via-then-count-need+else-marks-b-eq0, else-count-need-via-else-count-need}
