@@ -22,12 +22,12 @@ pub struct Held {
 
 // The flow of a slot.
 pub fn open<D: Device>(dev: &mut D, held: &Held, dir: &[u64], slot: usize) -> Result<Flow, Damaged>
-    requires fits { 32768 ≤ size dev.old }
-    requires few { size dev.old ≤ 1099511627776 }
+    requires fits { 32768 ≤ D.size dev.old }
+    requires few { D.size dev.old ≤ 1099511627776 }
     requires long { length dir.now ≡ 98304 }
     requires within { slot < 1024 }
-    ensures did { Did step (open_work (mind_of (size dev.old) held.now dir.now) slot) dev.old result dev.new }
-    ensures stays { size dev.new ≡ size dev.old }
+    ensures did { Did D.step (open_work (mind_of (D.size dev.old) held.now dir.now) slot) dev.old result dev.new }
+    ensures stays { D.size dev.new ≡ D.size dev.old }
 {
     let mut page = [0; 128];
     load_page(dev, &held.root, dir, slot, &mut page);
@@ -36,13 +36,13 @@ pub fn open<D: Device>(dev: &mut D, held: &Held, dir: &[u64], slot: usize) -> Re
 
 // The flow of a slot is saved, and then it counts.
 pub fn shut<D: Device>(dev: &mut D, held: &mut Held, dir: &[u64], slot: usize, flow: &Flow)
-    requires fits { 32768 ≤ size dev.old }
-    requires few { size dev.old ≤ 1099511627776 }
+    requires fits { 32768 ≤ D.size dev.old }
+    requires few { D.size dev.old ≤ 1099511627776 }
     requires long { length dir.now ≡ 98304 }
     requires within { slot < 1024 }
-    ensures did { Did step (shut_work (mind_of (size dev.old) held.old dir.now) slot flow.now) dev.old tt dev.new }
+    ensures did { Did D.step (shut_work (mind_of (D.size dev.old) held.old dir.now) slot flow.now) dev.old tt dev.new }
     ensures held { held.new ≡ held_as (turn_at 17 slot held.old.root) held.old }
-    ensures stays { size dev.new ≡ size dev.old }
+    ensures stays { D.size dev.new ≡ D.size dev.old }
 {
     let mut page = [0; 128];
     encode(flow, &mut page);

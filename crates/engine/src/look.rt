@@ -55,13 +55,13 @@ fn show_flow<D: Device>(
     slot: usize,
     flow: Flow,
 ) -> Reply
-    requires fits { 32768 ≤ size dev.old }
-    requires few { size dev.old ≤ 1099511627776 }
+    requires fits { 32768 ≤ D.size dev.old }
+    requires few { D.size dev.old ≤ 1099511627776 }
     requires long { length dir.now ≡ 98304 }
     requires within { slot < 1024 }
     requires roomy { length plan.old ≡ 16384 }
-    ensures done { Done step (show_flow (mind_of (size dev.old) held.now dir.now) slot flow) dev.old result (mind_of (size dev.old) held.now dir.now) dev.new }
-    ensures stays { size dev.new ≡ size dev.old }
+    ensures done { Done D.step (show_flow (mind_of (D.size dev.old) held.now dir.now) slot flow) dev.old result (mind_of (D.size dev.old) held.now dir.now) dev.new }
+    ensures stays { D.size dev.new ≡ D.size dev.old }
 {
     if !is_listening(flow.place.phase) {
         return Reply::State(flow.place.phase);
@@ -72,12 +72,12 @@ fn show_flow<D: Device>(
 }
 
 pub fn show<D: Device>(dev: &mut D, held: &Held, dir: &[u64], plan: &mut [u64], key: &[u8]) -> Reply
-    requires fits { 32768 ≤ size dev.old }
-    requires few { size dev.old ≤ 1099511627776 }
+    requires fits { 32768 ≤ D.size dev.old }
+    requires few { D.size dev.old ≤ 1099511627776 }
     requires long { length dir.now ≡ 98304 }
     requires roomy { length plan.old ≡ 16384 }
-    ensures done { Done step (at_slot (mind_of (size dev.old) held.now dir.now) (show_flow (mind_of (size dev.old) held.now dir.now)) (key_slot (mind_of (size dev.old) held.now dir.now) key.now)) dev.old result (mind_of (size dev.old) held.now dir.now) dev.new }
-    ensures stays { size dev.new ≡ size dev.old }
+    ensures done { Done D.step (at_slot (mind_of (D.size dev.old) held.now dir.now) (show_flow (mind_of (D.size dev.old) held.now dir.now)) (key_slot (mind_of (D.size dev.old) held.now dir.now) key.now)) dev.old result (mind_of (D.size dev.old) held.now dir.now) dev.new }
+    ensures stays { D.size dev.new ≡ D.size dev.old }
 {
     match find_key(&held.root, dir, key) {
         None => Reply::No(2),
@@ -96,12 +96,12 @@ fn forget_flow<D: Device>(
     slot: usize,
     flow: Flow,
 ) -> Reply
-    requires fits { 32768 ≤ size dev.old }
-    requires few { size dev.old ≤ 1099511627776 }
+    requires fits { 32768 ≤ D.size dev.old }
+    requires few { D.size dev.old ≤ 1099511627776 }
     requires long { length dir.now ≡ 98304 }
     requires within { slot < 1024 }
-    ensures done { Done step (forget_flow (mind_of (size dev.old) held.old dir.now) slot flow) dev.old result (mind_of (size dev.old) held.new dir.now) dev.new }
-    ensures stays { size dev.new ≡ size dev.old }
+    ensures done { Done D.step (forget_flow (mind_of (D.size dev.old) held.old dir.now) slot flow) dev.old result (mind_of (D.size dev.old) held.new dir.now) dev.new }
+    ensures stays { D.size dev.new ≡ D.size dev.old }
 {
     if !is_over(flow.place.phase) {
         return Reply::No(3);
@@ -113,11 +113,11 @@ fn forget_flow<D: Device>(
 }
 
 pub fn forget<D: Device>(dev: &mut D, held: &mut Held, dir: &[u64], key: &[u8]) -> Reply
-    requires fits { 32768 ≤ size dev.old }
-    requires few { size dev.old ≤ 1099511627776 }
+    requires fits { 32768 ≤ D.size dev.old }
+    requires few { D.size dev.old ≤ 1099511627776 }
     requires long { length dir.now ≡ 98304 }
-    ensures done { Done step (at_slot (mind_of (size dev.old) held.old dir.now) (forget_flow (mind_of (size dev.old) held.old dir.now)) (key_slot (mind_of (size dev.old) held.old dir.now) key.now)) dev.old result (mind_of (size dev.old) held.new dir.now) dev.new }
-    ensures stays { size dev.new ≡ size dev.old }
+    ensures done { Done D.step (at_slot (mind_of (D.size dev.old) held.old dir.now) (forget_flow (mind_of (D.size dev.old) held.old dir.now)) (key_slot (mind_of (D.size dev.old) held.old dir.now) key.now)) dev.old result (mind_of (D.size dev.old) held.new dir.now) dev.new }
+    ensures stays { D.size dev.new ≡ D.size dev.old }
 {
     match find_key(&held.root, dir, key) {
         None => Reply::No(2),
@@ -135,12 +135,12 @@ fn cancel_flow<D: Device>(
     slot: usize,
     flow: Flow,
 ) -> Reply
-    requires fits { 32768 ≤ size dev.old }
-    requires few { size dev.old ≤ 1099511627776 }
+    requires fits { 32768 ≤ D.size dev.old }
+    requires few { D.size dev.old ≤ 1099511627776 }
     requires long { length dir.now ≡ 98304 }
     requires within { slot < 1024 }
-    ensures done { Done step (cancel_flow (mind_of (size dev.old) held.old dir.now) slot flow) dev.old result (mind_of (size dev.old) held.new dir.now) dev.new }
-    ensures stays { size dev.new ≡ size dev.old }
+    ensures done { Done D.step (cancel_flow (mind_of (D.size dev.old) held.old dir.now) slot flow) dev.old result (mind_of (D.size dev.old) held.new dir.now) dev.new }
+    ensures stays { D.size dev.new ≡ D.size dev.old }
 {
     if is_over(flow.place.phase) {
         return Reply::No(3);
@@ -151,11 +151,11 @@ fn cancel_flow<D: Device>(
 }
 
 pub fn cancel<D: Device>(dev: &mut D, held: &mut Held, dir: &[u64], key: &[u8]) -> Reply
-    requires fits { 32768 ≤ size dev.old }
-    requires few { size dev.old ≤ 1099511627776 }
+    requires fits { 32768 ≤ D.size dev.old }
+    requires few { D.size dev.old ≤ 1099511627776 }
     requires long { length dir.now ≡ 98304 }
-    ensures done { Done step (at_slot (mind_of (size dev.old) held.old dir.now) (cancel_flow (mind_of (size dev.old) held.old dir.now)) (key_slot (mind_of (size dev.old) held.old dir.now) key.now)) dev.old result (mind_of (size dev.old) held.new dir.now) dev.new }
-    ensures stays { size dev.new ≡ size dev.old }
+    ensures done { Done D.step (at_slot (mind_of (D.size dev.old) held.old dir.now) (cancel_flow (mind_of (D.size dev.old) held.old dir.now)) (key_slot (mind_of (D.size dev.old) held.old dir.now) key.now)) dev.old result (mind_of (D.size dev.old) held.new dir.now) dev.new }
+    ensures stays { D.size dev.new ≡ D.size dev.old }
 {
     match find_key(&held.root, dir, key) {
         None => Reply::No(2),
@@ -176,14 +176,14 @@ fn longer_flow<D: Device>(
     try_out: Try,
     ms: u64,
 ) -> Reply
-    requires fits { 32768 ≤ size dev.old }
-    requires few { size dev.old ≤ 1099511627776 }
+    requires fits { 32768 ≤ D.size dev.old }
+    requires few { D.size dev.old ≤ 1099511627776 }
     requires long { length dir.now ≡ 98304 }
     requires within { slot < 1024 }
     requires clock { held.old.time ≤ 4611686018427387904 }
     requires day { ms ≤ 86400000 }
-    ensures done { Done step (longer_flow try_out.step try_out.attempt ms (mind_of (size dev.old) held.old dir.now) slot flow) dev.old result (mind_of (size dev.old) held.new dir.now) dev.new }
-    ensures stays { size dev.new ≡ size dev.old }
+    ensures done { Done D.step (longer_flow try_out.step try_out.attempt ms (mind_of (D.size dev.old) held.old dir.now) slot flow) dev.old result (mind_of (D.size dev.old) held.new dir.now) dev.new }
+    ensures stays { D.size dev.new ≡ D.size dev.old }
 {
     match tried(&flow, try_out.step, try_out.attempt) {
         Tried::NoTask => Reply::No(2),
@@ -204,13 +204,13 @@ pub fn longer<D: Device>(
     try_out: Try,
     ms: u64,
 ) -> Reply
-    requires fits { 32768 ≤ size dev.old }
-    requires few { size dev.old ≤ 1099511627776 }
+    requires fits { 32768 ≤ D.size dev.old }
+    requires few { D.size dev.old ≤ 1099511627776 }
     requires long { length dir.now ≡ 98304 }
     requires clock { held.old.time ≤ 4611686018427387904 }
     requires day { ms ≤ 86400000 }
-    ensures done { Done step (at_slot (mind_of (size dev.old) held.old dir.now) (longer_flow try_out.step try_out.attempt ms (mind_of (size dev.old) held.old dir.now)) (id_slot (mind_of (size dev.old) held.old dir.now) id)) dev.old result (mind_of (size dev.old) held.new dir.now) dev.new }
-    ensures stays { size dev.new ≡ size dev.old }
+    ensures done { Done D.step (at_slot (mind_of (D.size dev.old) held.old dir.now) (longer_flow try_out.step try_out.attempt ms (mind_of (D.size dev.old) held.old dir.now)) (id_slot (mind_of (D.size dev.old) held.old dir.now) id)) dev.old result (mind_of (D.size dev.old) held.new dir.now) dev.new }
+    ensures stays { D.size dev.new ≡ D.size dev.old }
 {
     match find_id(&held.root, dir, id) {
         None => Reply::No(2),
@@ -251,15 +251,15 @@ fn report_plan<D: Device>(
     flow: Flow,
     end: End,
 ) -> Reply
-    requires fits { 32768 ≤ size dev.old }
-    requires few { size dev.old ≤ 1099511627776 }
+    requires fits { 32768 ≤ D.size dev.old }
+    requires few { D.size dev.old ≤ 1099511627776 }
     requires long { length dir.now ≡ 98304 }
     requires within { slot < 1024 }
     requires roomy { length plan.old ≡ 16384 }
     requires deep { length stack.old ≡ 4096 }
     requires clock { held.old.time ≤ 4611686018427387904 }
-    ensures done { Done step (bind (load_plan (size dev.old) dir.now slot) (report_plan end.well end.value (mind_of (size dev.old) held.old dir.now) slot flow)) dev.old result (mind_of (size dev.old) held.new dir.now) dev.new }
-    ensures stays { size dev.new ≡ size dev.old }
+    ensures done { Done D.step (bind (load_plan (D.size dev.old) dir.now slot) (report_plan end.well end.value (mind_of (D.size dev.old) held.old dir.now) slot flow)) dev.old result (mind_of (D.size dev.old) held.new dir.now) dev.new }
+    ensures stays { D.size dev.new ≡ D.size dev.old }
 {
     let size = size_at(dir, slot);
     let words = &mut plan[0..4 * size];
@@ -284,15 +284,15 @@ fn report_flow<D: Device>(
     try_out: Try,
     end: End,
 ) -> Reply
-    requires fits { 32768 ≤ size dev.old }
-    requires few { size dev.old ≤ 1099511627776 }
+    requires fits { 32768 ≤ D.size dev.old }
+    requires few { D.size dev.old ≤ 1099511627776 }
     requires long { length dir.now ≡ 98304 }
     requires within { slot < 1024 }
     requires roomy { length plan.old ≡ 16384 }
     requires deep { length stack.old ≡ 4096 }
     requires clock { held.old.time ≤ 4611686018427387904 }
-    ensures done { Done step (report_flow try_out.step try_out.attempt end.well end.value (mind_of (size dev.old) held.old dir.now) slot flow) dev.old result (mind_of (size dev.old) held.new dir.now) dev.new }
-    ensures stays { size dev.new ≡ size dev.old }
+    ensures done { Done D.step (report_flow try_out.step try_out.attempt end.well end.value (mind_of (D.size dev.old) held.old dir.now) slot flow) dev.old result (mind_of (D.size dev.old) held.new dir.now) dev.new }
+    ensures stays { D.size dev.new ≡ D.size dev.old }
 {
     match tried(&flow, try_out.step, try_out.attempt) {
         Tried::NoTask => Reply::No(2),
@@ -311,14 +311,14 @@ pub fn report<D: Device>(
     try_out: Try,
     end: End,
 ) -> Reply
-    requires fits { 32768 ≤ size dev.old }
-    requires few { size dev.old ≤ 1099511627776 }
+    requires fits { 32768 ≤ D.size dev.old }
+    requires few { D.size dev.old ≤ 1099511627776 }
     requires long { length dir.now ≡ 98304 }
     requires roomy { length plan.old ≡ 16384 }
     requires deep { length stack.old ≡ 4096 }
     requires clock { held.old.time ≤ 4611686018427387904 }
-    ensures done { Done step (at_slot (mind_of (size dev.old) held.old dir.now) (report_flow try_out.step try_out.attempt end.well end.value (mind_of (size dev.old) held.old dir.now)) (id_slot (mind_of (size dev.old) held.old dir.now) id)) dev.old result (mind_of (size dev.old) held.new dir.now) dev.new }
-    ensures stays { size dev.new ≡ size dev.old }
+    ensures done { Done D.step (at_slot (mind_of (D.size dev.old) held.old dir.now) (report_flow try_out.step try_out.attempt end.well end.value (mind_of (D.size dev.old) held.old dir.now)) (id_slot (mind_of (D.size dev.old) held.old dir.now) id)) dev.old result (mind_of (D.size dev.old) held.new dir.now) dev.new }
+    ensures stays { D.size dev.new ≡ D.size dev.old }
 {
     match find_id(&held.root, dir, id) {
         None => Reply::No(2),

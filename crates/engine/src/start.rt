@@ -31,12 +31,12 @@ fn is_spent(root: &[u64; 40]) -> bool
 
 // The other root page with one flow more, and then it counts.
 fn count_in<D: Device>(dev: &mut D, held: &mut Held, slot: usize)
-    requires fits { 32768 ≤ size dev.old }
+    requires fits { 32768 ≤ D.size dev.old }
     requires within { slot < 1024 }
     requires low { next_of held.old.root < 4611686018427387904 }
-    ensures did { Did step (flip_to held.old.word (bumped (turn_at 1 slot held.old.root))) dev.old tt dev.new }
+    ensures did { Did D.step (flip_to held.old.word (bumped (turn_at 1 slot held.old.root))) dev.old tt dev.new }
     ensures held { held.new ≡ held_as (bumped (turn_at 1 slot held.old.root)) held.old }
-    ensures stays { size dev.new ≡ size dev.old }
+    ensures stays { D.size dev.new ≡ D.size dev.old }
 {
     turn_used(&mut held.root, slot);
     bump(&mut held.root);
@@ -55,14 +55,14 @@ fn born<D: Device>(
     blocks: &[u64; 18],
     flow: &Flow,
 ) -> Reply
-    requires fits { 32768 ≤ size dev.old }
-    requires few { size dev.old ≤ 1099511627776 }
+    requires fits { 32768 ≤ D.size dev.old }
+    requires few { D.size dev.old ≤ 1099511627776 }
     requires long { length dir.old ≡ 98304 }
     requires within { slot < 1024 }
     requires small { length plan.now ≤ 16384 }
     requires low { next_of held.old.root < 4611686018427387904 }
-    ensures done { Done step (born_work (mind_of (size dev.old) held.old dir.old) slot (entry_of (next_of held.old.root) (length plan.now / 4) key.now blocks.now) (put_entry slot (entry_of (next_of held.old.root) (length plan.now / 4) key.now blocks.now) dir.old) (bumped (turn_at 1 slot held.old.root)) plan.now flow.now) dev.old result (mind_of (size dev.old) held.new dir.new) dev.new }
-    ensures stays { size dev.new ≡ size dev.old }
+    ensures done { Done D.step (born_work (mind_of (D.size dev.old) held.old dir.old) slot (entry_of (next_of held.old.root) (length plan.now / 4) key.now blocks.now) (put_entry slot (entry_of (next_of held.old.root) (length plan.now / 4) key.now blocks.now) dir.old) (bumped (turn_at 1 slot held.old.root)) plan.now flow.now) dev.old result (mind_of (D.size dev.old) held.new dir.new) dev.new }
+    ensures stays { D.size dev.new ≡ D.size dev.old }
     ensures dir { length dir.new ≡ 98304 }
 {
     let id = held.root[0] + 1;
@@ -90,8 +90,8 @@ fn start_blocks<D: Device>(
     slot: usize,
     blocks: &[u64; 18],
 ) -> Reply
-    requires fits { 32768 ≤ size dev.old }
-    requires few { size dev.old ≤ 1099511627776 }
+    requires fits { 32768 ≤ D.size dev.old }
+    requires few { D.size dev.old ≤ 1099511627776 }
     requires long { length dir.old ≡ 98304 }
     requires within { slot < 1024 }
     requires small { length plan.now ≤ 16384 }
@@ -99,8 +99,8 @@ fn start_blocks<D: Device>(
     requires clock { held.old.time ≤ 4611686018427387904 }
     requires given { length given.now ≤ 16 }
     requires low { next_of held.old.root < 4611686018427387904 }
-    ensures done { Done step (start_blocks key.now (length plan.now / 4) plan.now given.now (mind_of (size dev.old) held.old dir.old) slot blocks.now) dev.old result (mind_of (size dev.old) held.new dir.new) dev.new }
-    ensures stays { size dev.new ≡ size dev.old }
+    ensures done { Done D.step (start_blocks key.now (length plan.now / 4) plan.now given.now (mind_of (D.size dev.old) held.old dir.old) slot blocks.now) dev.old result (mind_of (D.size dev.old) held.new dir.new) dev.new }
+    ensures stays { D.size dev.new ≡ D.size dev.old }
     ensures dir { length dir.new ≡ 98304 }
 {
     match begin(plan, given, held.time, stack) {
@@ -157,8 +157,8 @@ fn start_free<D: Device>(
     given: &[u64],
     slot: usize,
 ) -> Reply
-    requires fits { 32768 ≤ size dev.old }
-    requires few { size dev.old ≤ 1099511627776 }
+    requires fits { 32768 ≤ D.size dev.old }
+    requires few { D.size dev.old ≤ 1099511627776 }
     requires long { length dir.old ≡ 98304 }
     requires within { slot < 1024 }
     requires small { length plan.now ≤ 16384 }
@@ -166,8 +166,8 @@ fn start_free<D: Device>(
     requires marks { length marks.old ≡ 18432 }
     requires clock { held.old.time ≤ 4611686018427387904 }
     requires given { length given.now ≤ 16 }
-    ensures done { Done step (start_free key.now (length plan.now / 4) plan.now given.now (mind_of (size dev.old) held.old dir.old) slot) dev.old result (mind_of (size dev.old) held.new dir.new) dev.new }
-    ensures stays { size dev.new ≡ size dev.old }
+    ensures done { Done D.step (start_free key.now (length plan.now / 4) plan.now given.now (mind_of (D.size dev.old) held.old dir.old) slot) dev.old result (mind_of (D.size dev.old) held.new dir.new) dev.new }
+    ensures stays { D.size dev.new ≡ D.size dev.old }
     ensures dir { length dir.new ≡ 98304 }
 {
     if is_spent(&held.root) {
@@ -195,16 +195,16 @@ pub fn start<D: Device>(
     key: &[u8],
     given: &[u64],
 ) -> Reply
-    requires fits { 32768 ≤ size dev.old }
-    requires few { size dev.old ≤ 1099511627776 }
+    requires fits { 32768 ≤ D.size dev.old }
+    requires few { D.size dev.old ≤ 1099511627776 }
     requires long { length dir.old ≡ 98304 }
     requires small { length plan.now ≤ 16384 }
     requires deep { length stack.old ≡ 4096 }
     requires marks { length marks.old ≡ 18432 }
     requires clock { held.old.time ≤ 4611686018427387904 }
     requires given { length given.now ≤ 16 }
-    ensures done { Done step (start_work key.now (length plan.now / 4) plan.now given.now (mind_of (size dev.old) held.old dir.old)) dev.old result (mind_of (size dev.old) held.new dir.new) dev.new }
-    ensures stays { size dev.new ≡ size dev.old }
+    ensures done { Done D.step (start_work key.now (length plan.now / 4) plan.now given.now (mind_of (D.size dev.old) held.old dir.old)) dev.old result (mind_of (D.size dev.old) held.new dir.new) dev.new }
+    ensures stays { D.size dev.new ≡ D.size dev.old }
     ensures dir { length dir.new ≡ 98304 }
 {
     match find_key(&held.root, dir, key) {

@@ -88,13 +88,13 @@ fn look_turn<D: Device>(
     slot: usize,
     looking: Looking,
 ) -> Looking
-    requires fits { 32768 ≤ size dev.old }
-    requires few { size dev.old ≤ 1099511627776 }
+    requires fits { 32768 ≤ D.size dev.old }
+    requires few { D.size dev.old ≤ 1099511627776 }
     requires long { length dir.now ≡ 98304 }
     requires within { slot < 1024 }
     requires low { IfSome looking.best (λ b. b.slot < 1024) }
-    ensures did { Did step (look_turn kinds.now (mind_of (size dev.old) held.now dir.now) slot looking) dev.old result dev.new }
-    ensures stays { size dev.new ≡ size dev.old }
+    ensures did { Did D.step (look_turn kinds.now (mind_of (D.size dev.old) held.now dir.now) slot looking) dev.old result dev.new }
+    ensures stays { D.size dev.new ≡ D.size dev.old }
     ensures low { IfSome result.best (λ b. b.slot < 1024) }
 {
     if !is_used(&held.root, slot) {
@@ -111,11 +111,11 @@ fn look_turn<D: Device>(
 
 // All slots.
 fn look<D: Device>(dev: &mut D, held: &Held, dir: &[u64], kinds: &[u64]) -> Looking
-    requires fits { 32768 ≤ size dev.old }
-    requires few { size dev.old ≤ 1099511627776 }
+    requires fits { 32768 ≤ D.size dev.old }
+    requires few { D.size dev.old ≤ 1099511627776 }
     requires long { length dir.now ≡ 98304 }
-    ensures did { Did step (loop_from (look_turn kinds.now (mind_of (size dev.old) held.now dir.now)) 0 1024 (record { bad = false; best = None })) dev.old result dev.new }
-    ensures stays { size dev.new ≡ size dev.old }
+    ensures did { Did D.step (loop_from (look_turn kinds.now (mind_of (D.size dev.old) held.now dir.now)) 0 1024 (record { bad = false; best = None })) dev.old result dev.new }
+    ensures stays { D.size dev.new ≡ D.size dev.old }
     ensures low { IfSome result.best (λ b. b.slot < 1024) }
 {
     let mut looking = Looking {
@@ -150,14 +150,14 @@ fn hand_flow<D: Device>(
     flow: Flow,
     ms: u64,
 ) -> Reply
-    requires fits { 32768 ≤ size dev.old }
-    requires few { size dev.old ≤ 1099511627776 }
+    requires fits { 32768 ≤ D.size dev.old }
+    requires few { D.size dev.old ≤ 1099511627776 }
     requires long { length dir.now ≡ 98304 }
     requires within { slot < 1024 }
     requires clock { held.old.time ≤ 4611686018427387904 }
     requires day { ms ≤ 86400000 }
-    ensures done { Done step (hand_flow ms (mind_of (size dev.old) held.old dir.now) slot flow) dev.old result (mind_of (size dev.old) held.new dir.now) dev.new }
-    ensures stays { size dev.new ≡ size dev.old }
+    ensures done { Done D.step (hand_flow ms (mind_of (D.size dev.old) held.old dir.now) slot flow) dev.old result (mind_of (D.size dev.old) held.new dir.now) dev.new }
+    ensures stays { D.size dev.new ≡ D.size dev.old }
 {
     let Some(task) = flow.task else {
         return Reply::Damaged;
@@ -178,14 +178,14 @@ fn hand_flow<D: Device>(
 
 // The task that was found is handed out.
 fn hand<D: Device>(dev: &mut D, held: &mut Held, dir: &[u64], slot: usize, ms: u64) -> Reply
-    requires fits { 32768 ≤ size dev.old }
-    requires few { size dev.old ≤ 1099511627776 }
+    requires fits { 32768 ≤ D.size dev.old }
+    requires few { D.size dev.old ≤ 1099511627776 }
     requires long { length dir.now ≡ 98304 }
     requires within { slot < 1024 }
     requires clock { held.old.time ≤ 4611686018427387904 }
     requires day { ms ≤ 86400000 }
-    ensures done { Done step (at_flow (mind_of (size dev.old) held.old dir.now) (hand_flow ms (mind_of (size dev.old) held.old dir.now)) slot) dev.old result (mind_of (size dev.old) held.new dir.now) dev.new }
-    ensures stays { size dev.new ≡ size dev.old }
+    ensures done { Done D.step (at_flow (mind_of (D.size dev.old) held.old dir.now) (hand_flow ms (mind_of (D.size dev.old) held.old dir.now)) slot) dev.old result (mind_of (D.size dev.old) held.new dir.now) dev.new }
+    ensures stays { D.size dev.new ≡ D.size dev.old }
 {
     match open(dev, held, dir, slot) {
         Err(_) => Reply::Damaged,
@@ -194,13 +194,13 @@ fn hand<D: Device>(dev: &mut D, held: &mut Held, dir: &[u64], slot: usize, ms: u
 }
 
 pub fn take<D: Device>(dev: &mut D, held: &mut Held, dir: &[u64], kinds: &[u64], ms: u64) -> Reply
-    requires fits { 32768 ≤ size dev.old }
-    requires few { size dev.old ≤ 1099511627776 }
+    requires fits { 32768 ≤ D.size dev.old }
+    requires few { D.size dev.old ≤ 1099511627776 }
     requires long { length dir.now ≡ 98304 }
     requires clock { held.old.time ≤ 4611686018427387904 }
     requires day { ms ≤ 86400000 }
-    ensures done { Done step (take_work kinds.now ms (mind_of (size dev.old) held.old dir.now)) dev.old result (mind_of (size dev.old) held.new dir.now) dev.new }
-    ensures stays { size dev.new ≡ size dev.old }
+    ensures done { Done D.step (take_work kinds.now ms (mind_of (D.size dev.old) held.old dir.now)) dev.old result (mind_of (D.size dev.old) held.new dir.now) dev.new }
+    ensures stays { D.size dev.new ≡ D.size dev.old }
 {
     let looking = look(dev, held, dir, kinds);
     if looking.bad {

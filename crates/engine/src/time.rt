@@ -44,12 +44,12 @@ fn tick_save<D: Device>(
     ticking: Ticking,
     flow: &Flow,
 ) -> Ticking
-    requires fits { 32768 ≤ size dev.old }
-    requires few { size dev.old ≤ 1099511627776 }
+    requires fits { 32768 ≤ D.size dev.old }
+    requires few { D.size dev.old ≤ 1099511627776 }
     requires long { length dir.now ≡ 98304 }
     requires within { slot < 1024 }
-    ensures did { Did step (tick_save (mind_of (size dev.old) held.now dir.now) slot ticking flow.now) dev.old result dev.new }
-    ensures stays { size dev.new ≡ size dev.old }
+    ensures did { Did D.step (tick_save (mind_of (D.size dev.old) held.now dir.now) slot ticking flow.now) dev.old result dev.new }
+    ensures stays { D.size dev.new ≡ D.size dev.old }
 {
     let mut words = [0; 128];
     encode(flow, &mut words);
@@ -76,15 +76,15 @@ fn tick_plan<D: Device>(
     ticking: Ticking,
     flow: Flow,
 ) -> Ticking
-    requires fits { 32768 ≤ size dev.old }
-    requires few { size dev.old ≤ 1099511627776 }
+    requires fits { 32768 ≤ D.size dev.old }
+    requires few { D.size dev.old ≤ 1099511627776 }
     requires long { length dir.now ≡ 98304 }
     requires within { slot < 1024 }
     requires roomy { length plan.old ≡ 16384 }
     requires deep { length stack.old ≡ 4096 }
     requires clock { time < 4611686018427387904 }
-    ensures did { Did step (bind (load_plan (size dev.old) dir.now slot) (tick_plan time (mind_of (size dev.old) held.now dir.now) slot ticking flow)) dev.old result dev.new }
-    ensures stays { size dev.new ≡ size dev.old }
+    ensures did { Did D.step (bind (load_plan (D.size dev.old) dir.now slot) (tick_plan time (mind_of (D.size dev.old) held.now dir.now) slot ticking flow)) dev.old result dev.new }
+    ensures stays { D.size dev.new ≡ D.size dev.old }
 {
     let size = size_at(dir, slot);
     let words = &mut plan[0..4 * size];
@@ -106,15 +106,15 @@ fn tick_flow<D: Device>(
     ticking: Ticking,
     flow: Flow,
 ) -> Ticking
-    requires fits { 32768 ≤ size dev.old }
-    requires few { size dev.old ≤ 1099511627776 }
+    requires fits { 32768 ≤ D.size dev.old }
+    requires few { D.size dev.old ≤ 1099511627776 }
     requires long { length dir.now ≡ 98304 }
     requires within { slot < 1024 }
     requires roomy { length plan.old ≡ 16384 }
     requires deep { length stack.old ≡ 4096 }
     requires clock { time < 4611686018427387904 }
-    ensures did { Did step (tick_flow time (mind_of (size dev.old) held.now dir.now) slot ticking flow) dev.old result dev.new }
-    ensures stays { size dev.new ≡ size dev.old }
+    ensures did { Did D.step (tick_flow time (mind_of (D.size dev.old) held.now dir.now) slot ticking flow) dev.old result dev.new }
+    ensures stays { D.size dev.new ≡ D.size dev.old }
 {
     if !stirs(&flow, time) {
         return ticking;
@@ -132,15 +132,15 @@ fn tick_turn<D: Device>(
     slot: usize,
     ticking: Ticking,
 ) -> Ticking
-    requires fits { 32768 ≤ size dev.old }
-    requires few { size dev.old ≤ 1099511627776 }
+    requires fits { 32768 ≤ D.size dev.old }
+    requires few { D.size dev.old ≤ 1099511627776 }
     requires long { length dir.now ≡ 98304 }
     requires within { slot < 1024 }
     requires roomy { length plan.old ≡ 16384 }
     requires deep { length stack.old ≡ 4096 }
     requires clock { time < 4611686018427387904 }
-    ensures did { Did step (tick_turn time (mind_of (size dev.old) held.now dir.now) slot ticking) dev.old result dev.new }
-    ensures stays { size dev.new ≡ size dev.old }
+    ensures did { Did D.step (tick_turn time (mind_of (D.size dev.old) held.now dir.now) slot ticking) dev.old result dev.new }
+    ensures stays { D.size dev.new ≡ D.size dev.old }
 {
     if !is_used(&held.root, slot) {
         return ticking;
@@ -160,14 +160,14 @@ fn tick_all<D: Device>(
     stack: &mut [u64],
     time: u64,
 ) -> Ticking
-    requires fits { 32768 ≤ size dev.old }
-    requires few { size dev.old ≤ 1099511627776 }
+    requires fits { 32768 ≤ D.size dev.old }
+    requires few { D.size dev.old ≤ 1099511627776 }
     requires long { length dir.now ≡ 98304 }
     requires roomy { length plan.old ≡ 16384 }
     requires deep { length stack.old ≡ 4096 }
     requires clock { time < 4611686018427387904 }
-    ensures did { Did step (loop_from (tick_turn time (mind_of (size dev.old) held.now dir.now)) 0 1024 (record { bad = false; any = false; page = held.now.root })) dev.old result dev.new }
-    ensures stays { size dev.new ≡ size dev.old }
+    ensures did { Did D.step (loop_from (tick_turn time (mind_of (D.size dev.old) held.now dir.now)) 0 1024 (record { bad = false; any = false; page = held.now.root })) dev.old result dev.new }
+    ensures stays { D.size dev.new ≡ D.size dev.old }
 {
     let page = held.root;
     let mut ticking = Ticking {
@@ -190,14 +190,14 @@ pub fn tick<D: Device>(
     stack: &mut [u64],
     time: u64,
 ) -> Reply
-    requires fits { 32768 ≤ size dev.old }
-    requires few { size dev.old ≤ 1099511627776 }
+    requires fits { 32768 ≤ D.size dev.old }
+    requires few { D.size dev.old ≤ 1099511627776 }
     requires long { length dir.now ≡ 98304 }
     requires roomy { length plan.old ≡ 16384 }
     requires deep { length stack.old ≡ 4096 }
     requires clock { time < 4611686018427387904 }
-    ensures done { Done step (tick_work time (mind_of (size dev.old) held.old dir.now)) dev.old result (mind_of (size dev.old) held.new dir.now) dev.new }
-    ensures stays { size dev.new ≡ size dev.old }
+    ensures done { Done D.step (tick_work time (mind_of (D.size dev.old) held.old dir.now)) dev.old result (mind_of (D.size dev.old) held.new dir.now) dev.new }
+    ensures stays { D.size dev.new ≡ D.size dev.old }
 {
     let ticking = tick_all(dev, held, dir, plan, stack, time);
     if ticking.bad {

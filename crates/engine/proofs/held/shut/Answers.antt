@@ -10,6 +10,6 @@ pub returns : goal.returns
 returns g c =
     let x = mind_of (g.D.Device.size c.args.dev.now) c.args.held.now c.args.dir.now in
     let d : Did g.D.Device.step (shut_work x c.args.slot c.args.flow.now) c.args.dev.now tt c.commit.new.dev =
-    shut_did g.D.Device.step x c.args.slot (1 - c.pick-copy.result) c.encode.new.out c.turn-pick.new.page c.args.flow.now
-    (ap (λ v. 1 - v) c.pick-copy.ensures.is) c.encode.ensures c.turn-pick.ensures c.save-page.ensures.did c.commit.ensures.did in
-    record { did = d; held = ap (λ q. held_as q c.args.held.now) c.turn-pick.ensures; stays = did_size g.met.D.Device.stays d }
+    shut_did g.D.Device.step x c.args.slot (1 - c.pick-copy.result) c.encode.new.out c.turn_pick.new.page c.args.flow.now
+    (ap (λ v. 1 - v) c.pick-copy.ensures.is) c.encode.ensures c.turn_pick.ensures c.save_page.ensures.did c.commit.ensures.did in
+    record { did = d; held = ap (λ q. held_as q c.args.held.now) c.turn_pick.ensures; stays = did_size g.met.D.Device.stays d }

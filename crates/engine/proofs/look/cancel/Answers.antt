@@ -7,8 +7,8 @@ use Rattle.engine.proofs.look.cancel.Goals as goal
 pub open-requires : goal.open-requires
 open-requires g c = record { fits = c.requires.fits; few = c.requires.few; long = c.requires.long; within = c.in-Some.ensures.low }
 
-pub cancel-flow-requires : goal.cancel-flow-requires
-cancel-flow-requires g c =
+pub cancel_flow-requires : goal.cancel_flow-requires
+cancel_flow-requires g c =
     let e = c.in-Ok.ensures.stays in
     record { fits = omega (arith, e, c.requires.fits); few = omega (arith, e, c.requires.few); long = c.requires.long; within = c.in-Some.ensures.low }
 
@@ -33,9 +33,9 @@ returns-in-Ok g c =
     let s = g.D.Device.size c.args.dev.now in
     let e = c.in-Ok.ensures.stays in
     let x = mind_of s c.args.held.now c.args.dir.now in
-    let y = mind_of s c.cancel-flow.new.held c.args.dir.now in
-    let d = subst (λ n. Done step (cancel_flow (mind_of n c.args.held.now c.args.dir.now) c.in-Some.slot c.in-Ok.flow) c.open.new.dev c.cancel-flow.result (mind_of n c.cancel-flow.new.held c.args.dir.now) c.cancel-flow.new.dev) e c.cancel-flow.ensures.done in
+    let y = mind_of s c.cancel_flow.new.held c.args.dir.now in
+    let d = subst (λ n. Done step (cancel_flow (mind_of n c.args.held.now c.args.dir.now) c.in-Some.slot c.in-Ok.flow) c.open.new.dev c.cancel_flow.result (mind_of n c.cancel_flow.new.held c.args.dir.now) c.cancel_flow.new.dev) e c.cancel_flow.ensures.done in
     record {
       done = at_some step x (cancel_flow x) c.in-Some.slot (key_slot x c.args.key.now) _ y c.in-Some.ensures.is (flow_done step x (cancel_flow x) c.in-Some.slot c.in-Ok.flow _ y c.in-Ok.ensures.did d);
-      stays = c.cancel-flow.ensures.stays ∙ e;
+      stays = c.cancel_flow.ensures.stays ∙ e;
     }

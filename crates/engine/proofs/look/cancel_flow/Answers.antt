@@ -4,8 +4,8 @@ use Rattle.engine.specs.Done.{mind_of, Done}
 use Rattle.engine.proofs.Doing.{cancel_not, cancel_done}
 use Rattle.engine.proofs.look.cancel_flow.Goals as goal
 
-pub returns-then-is-over : goal.returns-then-is-over
-returns-then-is-over g c = record { done = cancel_not g.D.Device.step (mind_of (g.D.Device.size c.args.dev.now) c.args.held.now c.args.dir.now) c.args.slot c.args.flow (sym c.if-is-over.ensures.flat); stays = refl }
+pub returns-then-is_over : goal.returns-then-is_over
+returns-then-is_over g c = record { done = cancel_not g.D.Device.step (mind_of (g.D.Device.size c.args.dev.now) c.args.held.now c.args.dir.now) c.args.slot c.args.flow (sym c.if-is_over.ensures.flat); stays = refl }
 
 pub returns : goal.returns
 returns g c =
@@ -13,6 +13,6 @@ returns g c =
     let x = mind_of (g.D.Device.size c.args.dev.now) c.args.held.now c.args.dir.now in
     record {
       done = subst (λ h. Done g.D.Device.step (cancel_flow x c.args.slot c.args.flow) c.args.dev.now _ (mind_of n h c.args.dir.now) c.shut.new.dev) (sym c.shut.ensures.held)
-          (cancel_done g.D.Device.step x c.args.slot c.args.flow c.cancelled-flow.result (sym c.if-is-over.ensures.flat) c.cancelled-flow.ensures.flat c.shut.ensures.did);
+          (cancel_done g.D.Device.step x c.args.slot c.args.flow c.cancelled-flow.result (sym c.if-is_over.ensures.flat) c.cancelled-flow.ensures.flat c.shut.ensures.did);
       stays = c.shut.ensures.stays;
     }

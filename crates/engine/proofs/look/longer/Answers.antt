@@ -7,8 +7,8 @@ use Rattle.engine.proofs.look.longer.Goals as goal
 pub open-requires : goal.open-requires
 open-requires g c = record { fits = c.requires.fits; few = c.requires.few; long = c.requires.long; within = c.in-Some.ensures.low }
 
-pub longer-flow-requires : goal.longer-flow-requires
-longer-flow-requires g c =
+pub longer_flow-requires : goal.longer_flow-requires
+longer_flow-requires g c =
     let e = c.in-Ok.ensures.stays in
     record { fits = omega (arith, e, c.requires.fits); few = omega (arith, e, c.requires.few); long = c.requires.long; within = c.in-Some.ensures.low; clock = c.requires.clock; day = c.requires.day }
 
@@ -33,9 +33,9 @@ returns-in-Ok g c =
     let s = g.D.Device.size c.args.dev.now in
     let e = c.in-Ok.ensures.stays in
     let x = mind_of s c.args.held.now c.args.dir.now in
-    let y = mind_of s c.longer-flow.new.held c.args.dir.now in
-    let d = subst (λ n. Done step (longer_flow c.args.try_out.step c.args.try_out.attempt c.args.ms (mind_of n c.args.held.now c.args.dir.now) c.in-Some.slot c.in-Ok.flow) c.open.new.dev c.longer-flow.result (mind_of n c.longer-flow.new.held c.args.dir.now) c.longer-flow.new.dev) e c.longer-flow.ensures.done in
+    let y = mind_of s c.longer_flow.new.held c.args.dir.now in
+    let d = subst (λ n. Done step (longer_flow c.args.try_out.step c.args.try_out.attempt c.args.ms (mind_of n c.args.held.now c.args.dir.now) c.in-Some.slot c.in-Ok.flow) c.open.new.dev c.longer_flow.result (mind_of n c.longer_flow.new.held c.args.dir.now) c.longer_flow.new.dev) e c.longer_flow.ensures.done in
     record {
       done = at_some step x (longer_flow c.args.try_out.step c.args.try_out.attempt c.args.ms x) c.in-Some.slot (id_slot x c.args.id) _ y c.in-Some.ensures.is (flow_done step x (longer_flow c.args.try_out.step c.args.try_out.attempt c.args.ms x) c.in-Some.slot c.in-Ok.flow _ y c.in-Ok.ensures.did d);
-      stays = c.longer-flow.ensures.stays ∙ e;
+      stays = c.longer_flow.ensures.stays ∙ e;
     }

@@ -7,8 +7,8 @@ use Rattle.engine.proofs.look.report.Goals as goal
 pub open-requires : goal.open-requires
 open-requires g c = record { fits = c.requires.fits; few = c.requires.few; long = c.requires.long; within = c.in-Some.ensures.low }
 
-pub report-flow-requires : goal.report-flow-requires
-report-flow-requires g c =
+pub report_flow-requires : goal.report_flow-requires
+report_flow-requires g c =
     let e = c.in-Ok.ensures.stays in
     record { fits = omega (arith, e, c.requires.fits); few = omega (arith, e, c.requires.few); long = c.requires.long; within = c.in-Some.ensures.low; roomy = c.requires.roomy; deep = c.requires.deep; clock = c.requires.clock }
 
@@ -33,9 +33,9 @@ returns-in-Ok g c =
     let s = g.D.Device.size c.args.dev.now in
     let e = c.in-Ok.ensures.stays in
     let x = mind_of s c.args.held.now c.args.dir.now in
-    let y = mind_of s c.report-flow.new.held c.args.dir.now in
-    let d = subst (λ n. Done step (report_flow c.args.try_out.step c.args.try_out.attempt c.args.end.well c.args.end.value (mind_of n c.args.held.now c.args.dir.now) c.in-Some.slot c.in-Ok.flow) c.open.new.dev c.report-flow.result (mind_of n c.report-flow.new.held c.args.dir.now) c.report-flow.new.dev) e c.report-flow.ensures.done in
+    let y = mind_of s c.report_flow.new.held c.args.dir.now in
+    let d = subst (λ n. Done step (report_flow c.args.try_out.step c.args.try_out.attempt c.args.end.well c.args.end.value (mind_of n c.args.held.now c.args.dir.now) c.in-Some.slot c.in-Ok.flow) c.open.new.dev c.report_flow.result (mind_of n c.report_flow.new.held c.args.dir.now) c.report_flow.new.dev) e c.report_flow.ensures.done in
     record {
       done = at_some step x (report_flow c.args.try_out.step c.args.try_out.attempt c.args.end.well c.args.end.value x) c.in-Some.slot (id_slot x c.args.id) _ y c.in-Some.ensures.is (flow_done step x (report_flow c.args.try_out.step c.args.try_out.attempt c.args.end.well c.args.end.value x) c.in-Some.slot c.in-Ok.flow _ y c.in-Ok.ensures.did d);
-      stays = c.report-flow.ensures.stays ∙ e;
+      stays = c.report_flow.ensures.stays ∙ e;
     }

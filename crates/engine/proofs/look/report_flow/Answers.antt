@@ -23,4 +23,4 @@ pub returns-in-Out : goal.returns-in-Out
 unfolding report_flow
 returns-in-Out g c =
     let x = mind_of (g.D.Device.size c.args.dev.now) c.args.held.now c.args.dir.now in
-    record { done = try_out g.D.Device.step x (said (No 2) x) (said (No 5) x) (bind (load_plan x.lines x.dir c.args.slot) (report_plan c.args.end.well c.args.end.value x c.args.slot c.args.flow)) (tried_by c.args.try_out.step c.args.try_out.attempt c.args.flow) _ _ c.in-Out.ensures.flat c.report-plan.ensures.done; stays = c.report-plan.ensures.stays }
+    record { done = try_out g.D.Device.step x (said (No 2) x) (said (No 5) x) (bind (load_plan x.lines x.dir c.args.slot) (report_plan c.args.end.well c.args.end.value x c.args.slot c.args.flow)) (tried_by c.args.try_out.step c.args.try_out.attempt c.args.flow) _ _ c.in-Out.ensures.flat c.report_plan.ensures.done; stays = c.report_plan.ensures.stays }

@@ -7,8 +7,8 @@ use Rattle.engine.proofs.look.show.Goals as goal
 pub open-requires : goal.open-requires
 open-requires g c = record { fits = c.requires.fits; few = c.requires.few; long = c.requires.long; within = c.in-Some.ensures.low }
 
-pub show-flow-requires : goal.show-flow-requires
-show-flow-requires g c =
+pub show_flow-requires : goal.show_flow-requires
+show_flow-requires g c =
     let e = c.in-Ok.ensures.stays in
     record { fits = omega (arith, e, c.requires.fits); few = omega (arith, e, c.requires.few); long = c.requires.long; within = c.in-Some.ensures.low; roomy = c.requires.roomy }
 
@@ -34,8 +34,8 @@ returns-in-Ok g c =
     let e = c.in-Ok.ensures.stays in
     let x = mind_of s c.args.held.now c.args.dir.now in
     let y = mind_of s c.args.held.now c.args.dir.now in
-    let d = subst (λ n. Done step (show_flow (mind_of n c.args.held.now c.args.dir.now) c.in-Some.slot c.in-Ok.flow) c.open.new.dev c.show-flow.result (mind_of n c.args.held.now c.args.dir.now) c.show-flow.new.dev) e c.show-flow.ensures.done in
+    let d = subst (λ n. Done step (show_flow (mind_of n c.args.held.now c.args.dir.now) c.in-Some.slot c.in-Ok.flow) c.open.new.dev c.show_flow.result (mind_of n c.args.held.now c.args.dir.now) c.show_flow.new.dev) e c.show_flow.ensures.done in
     record {
       done = at_some step x (show_flow x) c.in-Some.slot (key_slot x c.args.key.now) _ y c.in-Some.ensures.is (flow_done step x (show_flow x) c.in-Some.slot c.in-Ok.flow _ y c.in-Ok.ensures.did d);
-      stays = c.show-flow.ensures.stays ∙ e;
+      stays = c.show_flow.ensures.stays ∙ e;
     }

@@ -14,18 +14,18 @@ returns g c =
     let size = g.D.Device.size in
     let n = size c.args.dev.now in
     let i = c.args.slot in
-    let d = c.put-entry.new.dir in
-    let es = c.entry-of-entry.result in
+    let d = c.put_entry.new.dir in
+    let es = c.entry_of-entry.result in
     let x = mind_of n c.args.held.now c.args.dir.now in
     let q = bumped (turn_at 1 i c.args.held.now.root) in
-    let e1 = c.save-entry.ensures.stays in
-    let e2 = c.save-plan.ensures.stays ∙ e1 in
-    let e3 = c.save-page.ensures.stays ∙ e2 in
-    let d2 = subst (λ n. Did step (save_plan n d i c.args.plan.now) c.save-entry.new.dev tt c.save-plan.new.dev) e1 c.save-plan.ensures.did in
-    let d3 = subst (λ n. Did step (save_page n d i c.pick-copy.result c.encode.new.out) c.save-plan.new.dev tt c.save-page.new.dev) e2 c.save-page.ensures.did in
+    let e1 = c.save_entry.ensures.stays in
+    let e2 = c.save_plan.ensures.stays ∙ e1 in
+    let e3 = c.save_page.ensures.stays ∙ e2 in
+    let d2 = subst (λ n. Did step (save_plan n d i c.args.plan.now) c.save_entry.new.dev tt c.save_plan.new.dev) e1 c.save_plan.ensures.did in
+    let d3 = subst (λ n. Did step (save_page n d i c.pick-copy.result c.encode.new.out) c.save_plan.new.dev tt c.save_page.new.dev) e2 c.save_page.ensures.did in
     record {
       done = born_all step x i c.pick-copy.result es _ d q c.args.plan.now c.encode.new.out c.args.flow.now _ _ c.pick-copy.ensures.is c.encode.ensures refl
-          c.entry-of-entry.ensures c.put-entry.ensures (ap (λ h. mind_of n h d) c.count-in.ensures.held) c.save-entry.ensures.did d2 d3 c.count-in.ensures.did;
-      stays = c.count-in.ensures.stays ∙ e3;
-      dir = ap length c.put-entry.ensures ∙ put_length (i * 96) es c.args.dir.now ∙ c.requires.long;
+          c.entry_of-entry.ensures c.put_entry.ensures (ap (λ h. mind_of n h d) c.count_in.ensures.held) c.save_entry.ensures.did d2 d3 c.count_in.ensures.did;
+      stays = c.count_in.ensures.stays ∙ e3;
+      dir = ap length c.put_entry.ensures ∙ put_length (i * 96) es c.args.dir.now ∙ c.requires.long;
     }

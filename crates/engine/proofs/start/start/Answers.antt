@@ -10,27 +10,27 @@ returns-in-Some g c =
     let x = mind_of (g.D.Device.size c.args.dev.now) c.args.held.now c.args.dir.now in
     let ws = c.args.plan.now in
     record {
-      done = start_known g.D.Device.step x c.args.key.now (length ws / 4) ws c.args.given.now c.in-Some.slot _ c.in-Some.ensures.is (ap (λ v. reply_bytes (Flow' v)) (sym c.id-at.ensures));
+      done = start_known g.D.Device.step x c.args.key.now (length ws / 4) ws c.args.given.now c.in-Some.slot _ c.in-Some.ensures.is (ap (λ v. reply_bytes (Flow' v)) (sym c.id_at.ensures));
       stays = search rules;
       dir = c.requires.long;
     }
 
-pub returns-in-None-free-slot : goal.returns-in-None-free-slot
-returns-in-None-free-slot g c =
+pub returns-in-None-free_slot : goal.returns-in-None-free_slot
+returns-in-None-free_slot g c =
     let x = mind_of (g.D.Device.size c.args.dev.now) c.args.held.now c.args.dir.now in
     let ws = c.args.plan.now in
     record {
-      done = start_none g.D.Device.step x c.args.key.now (length ws / 4) ws c.args.given.now c.in-None.ensures.is c.in-None-free-slot.ensures.is;
+      done = start_none g.D.Device.step x c.args.key.now (length ws / 4) ws c.args.given.now c.in-None.ensures.is c.in-None-free_slot.ensures.is;
       stays = search rules;
       dir = c.requires.long;
     }
 
-pub returns-in-Some-free-slot : goal.returns-in-Some-free-slot
-returns-in-Some-free-slot g c =
+pub returns-in-Some-free_slot : goal.returns-in-Some-free_slot
+returns-in-Some-free_slot g c =
     let x = mind_of (g.D.Device.size c.args.dev.now) c.args.held.now c.args.dir.now in
     let ws = c.args.plan.now in
     record {
-      done = start_free_lem g.D.Device.step x c.args.key.now (length ws / 4) ws c.args.given.now c.in-Some-free-slot.slot _ _ c.in-None.ensures.is c.in-Some-free-slot.ensures.is c.start_free.ensures.done;
+      done = start_free_lem g.D.Device.step x c.args.key.now (length ws / 4) ws c.args.given.now c.in-Some-free_slot.slot _ _ c.in-None.ensures.is c.in-Some-free_slot.ensures.is c.start_free.ensures.done;
       stays = c.start_free.ensures.stays;
       dir = c.start_free.ensures.dir;
     }

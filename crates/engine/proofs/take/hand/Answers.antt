@@ -15,6 +15,6 @@ returns-in-Ok g c =
     let s = g.D.Device.size c.args.dev.now in
     let e = c.in-Ok.ensures.stays in
     let x = mind_of (g.D.Device.size c.args.dev.now) c.args.held.now c.args.dir.now in
-    let y = mind_of s c.hand-flow.new.held c.args.dir.now in
-    let d = subst (λ n. Done step (hand_flow c.args.ms (mind_of n c.args.held.now c.args.dir.now) c.args.slot c.in-Ok.flow) c.open.new.dev c.hand-flow.result (mind_of n c.hand-flow.new.held c.args.dir.now) c.hand-flow.new.dev) e c.hand-flow.ensures.done in
-    record { done = flow_done step x (hand_flow c.args.ms x) c.args.slot c.in-Ok.flow _ y c.in-Ok.ensures.did d; stays = c.hand-flow.ensures.stays ∙ e }
+    let y = mind_of s c.hand_flow.new.held c.args.dir.now in
+    let d = subst (λ n. Done step (hand_flow c.args.ms (mind_of n c.args.held.now c.args.dir.now) c.args.slot c.in-Ok.flow) c.open.new.dev c.hand_flow.result (mind_of n c.hand_flow.new.held c.args.dir.now) c.hand_flow.new.dev) e c.hand_flow.ensures.done in
+    record { done = flow_done step x (hand_flow c.args.ms x) c.args.slot c.in-Ok.flow _ y c.in-Ok.ensures.did d; stays = c.hand_flow.ensures.stays ∙ e }

@@ -8,8 +8,8 @@ use Rattle.engine.specs.Done.{mind_of, Done}
 use Rattle.engine.proofs.Taking.{hand_none, hand_some}
 use Rattle.engine.proofs.take.hand_flow.Goals as goal
 
-pub returns-in-default : goal.returns-in-default
-returns-in-default g c = record { done = hand_none g.D.Device.step (mind_of (g.D.Device.size c.args.dev.now) c.args.held.now c.args.dir.now) c.args.ms c.args.slot c.args.flow c.in-default.is; stays = refl }
+pub returns-in_default : goal.returns-in_default
+returns-in_default g c = record { done = hand_none g.D.Device.step (mind_of (g.D.Device.size c.args.dev.now) c.args.held.now c.args.dir.now) c.args.ms c.args.slot c.args.flow c.in_default.is; stays = refl }
 
 pub returns : goal.returns
 returns g c =
@@ -18,8 +18,8 @@ returns g c =
     let x = mind_of (g.D.Device.size c.args.dev.now) c.args.held.now c.args.dir.now in
     let f = c.args.flow in
     let u = c.in-Some.task in
-    let er = ap (λ a. reply_bytes (Job a (step_in f.place.phase) (u.attempt % 65536) (u.kind % 4294967296) (take u.count u.args))) (sym c.id-at.ensures)
-    ∙ ap (λ b. reply_bytes (Job c.id-at.result b (u.attempt % 65536) (u.kind % 4294967296) (take u.count u.args))) (sym c.step-in.ensures) in
+    let er = ap (λ a. reply_bytes (Job a (step_in f.place.phase) (u.attempt % 65536) (u.kind % 4294967296) (take u.count u.args))) (sym c.id_at.ensures)
+    ∙ ap (λ b. reply_bytes (Job c.id_at.result b (u.attempt % 65536) (u.kind % 4294967296) (take u.count u.args))) (sym c.step_in.ensures) in
     record {
       done = hand_some step x c.args.ms c.args.slot f c.handed-flow.result u _ (mind_of n c.shut.new.held c.args.dir.now) c.in-Some.is c.handed-flow.ensures.flat er (ap (λ h. mind_of n h c.args.dir.now) (sym c.shut.ensures.held)) c.shut.ensures.did;
       stays = c.shut.ensures.stays;

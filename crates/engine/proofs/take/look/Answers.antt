@@ -6,8 +6,8 @@ use Rattle.engine.specs.Works.{look_turn}
 use Rattle.engine.specs.Done.{mind_of}
 use Rattle.engine.proofs.take.look.Goals as goal
 
-pub look-turn-looking-requires : goal.look-turn-looking-requires
-look-turn-looking-requires g c =
+pub look_turn-looking-requires : goal.look_turn-looking-requires
+look_turn-looking-requires g c =
     let e = c.loop-slot.invariant.0 in
     record { fits = omega (arith, e, c.requires.fits); few = omega (arith, e, c.requires.few); long = c.requires.long; within = omega arith; low = c.loop-slot.invariant.1 }
 
@@ -21,10 +21,10 @@ loop-slot-preserved g c =
     let e = c.loop-slot.invariant.0 in
     let init : Looking = record { bad = false; best = None } in
     let x = mind_of (g.D.Device.size c.args.dev.now) c.args.held.now c.args.dir.now in
-    let d = subst (λ n. Did step (look_turn c.args.kinds.now (mind_of n c.args.held.now c.args.dir.now) c.loop-slot.slot c.loop-slot.looking) c.loop-slot.dev c.look-turn-looking.result c.look-turn-looking.new.dev) e c.look-turn-looking.ensures.did in (
-      c.look-turn-looking.ensures.stays ∙ e,
-      c.look-turn-looking.ensures.low,
-      loop_again step (look_turn c.args.kinds.now x) c.loop-slot.slot 1024 c.loop-slot.looking c.look-turn-looking.result init (omega arith) d c.loop-slot.invariant.2,
+    let d = subst (λ n. Did step (look_turn c.args.kinds.now (mind_of n c.args.held.now c.args.dir.now) c.loop-slot.slot c.loop-slot.looking) c.loop-slot.dev c.look_turn-looking.result c.look_turn-looking.new.dev) e c.look_turn-looking.ensures.did in (
+      c.look_turn-looking.ensures.stays ∙ e,
+      c.look_turn-looking.ensures.low,
+      loop_again step (look_turn c.args.kinds.now x) c.loop-slot.slot 1024 c.loop-slot.looking c.look_turn-looking.result init (omega arith) d c.loop-slot.invariant.2,
     )
 
 pub returns : goal.returns

@@ -6,8 +6,8 @@ use Rattle.engine.specs.Works.{tick_turn}
 use Rattle.engine.specs.Done.{mind_of}
 use Rattle.engine.proofs.time.tick_all.Goals as goal
 
-pub tick-turn-ticking-requires : goal.tick-turn-ticking-requires
-tick-turn-ticking-requires g c =
+pub tick_turn-ticking-requires : goal.tick_turn-ticking-requires
+tick_turn-ticking-requires g c =
     let e = c.loop-slot.invariant.0 in
     record { fits = omega (arith, e, c.requires.fits); few = omega (arith, e, c.requires.few); long = c.requires.long; within = omega arith; roomy = c.loop-slot.invariant.1; deep = c.loop-slot.invariant.2; clock = c.requires.clock }
 
@@ -21,11 +21,11 @@ loop-slot-preserved g c =
     let e = c.loop-slot.invariant.0 in
     let init : Ticking = record { bad = false; any = false; page = c.args.held.now.root } in
     let x = mind_of (g.D.Device.size c.args.dev.now) c.args.held.now c.args.dir.now in
-    let d = subst (λ n. Did step (tick_turn c.args.time (mind_of n c.args.held.now c.args.dir.now) c.loop-slot.slot c.loop-slot.ticking) c.loop-slot.dev c.tick-turn-ticking.result c.tick-turn-ticking.new.dev) e c.tick-turn-ticking.ensures.did in (
-      c.tick-turn-ticking.ensures.stays ∙ e,
+    let d = subst (λ n. Did step (tick_turn c.args.time (mind_of n c.args.held.now c.args.dir.now) c.loop-slot.slot c.loop-slot.ticking) c.loop-slot.dev c.tick_turn-ticking.result c.tick_turn-ticking.new.dev) e c.tick_turn-ticking.ensures.did in (
+      c.tick_turn-ticking.ensures.stays ∙ e,
       omega (arith, c.loop-slot.invariant.1),
       omega (arith, c.loop-slot.invariant.2),
-      loop_again step (tick_turn c.args.time x) c.loop-slot.slot 1024 c.loop-slot.ticking c.tick-turn-ticking.result init (omega arith) d c.loop-slot.invariant.3,
+      loop_again step (tick_turn c.args.time x) c.loop-slot.slot 1024 c.loop-slot.ticking c.tick_turn-ticking.result init (omega arith) d c.loop-slot.invariant.3,
     )
 
 pub returns : goal.returns

@@ -8,14 +8,14 @@ use Rattle.engine.proofs.time.tick_plan.Goals as goal
 
 pub returns-in-Err : goal.returns-in-Err
 returns-in-Err g c =
-    let ws = c.load-plan.new.out in
+    let ws = c.load_plan.new.out in
     let e = subst (λ n. Err c.in-Err.field-0 ≡ ticked_on n ws c.args.time c.args.flow) c.requires.deep c.in-Err.ensures.flat in
-    record { did = plan_lost g.D.Device.step (mind_of (g.D.Device.size c.args.dev.now) c.args.held.now c.args.dir.now) c.args.time c.args.slot c.args.ticking c.spoilt.result c.args.flow ws c.in-Err.field-0 e c.spoilt.ensures c.load-plan.ensures.did; stays = c.load-plan.ensures.stays }
+    record { did = plan_lost g.D.Device.step (mind_of (g.D.Device.size c.args.dev.now) c.args.held.now c.args.dir.now) c.args.time c.args.slot c.args.ticking c.spoilt.result c.args.flow ws c.in-Err.field-0 e c.spoilt.ensures c.load_plan.ensures.did; stays = c.load_plan.ensures.stays }
 
 pub returns-in-Ok : goal.returns-in-Ok
 returns-in-Ok g c =
     let step = g.D.Device.step in
-    let ws = c.load-plan.new.out in
+    let ws = c.load_plan.new.out in
     let e = subst (λ n. Ok c.in-Ok.flow ≡ ticked_on n ws c.args.time c.args.flow) c.requires.deep c.in-Ok.ensures.flat in
-    let d = subst (λ n. Did step (tick_save (mind_of n c.args.held.now c.args.dir.now) c.args.slot c.args.ticking c.in-Ok.flow) c.load-plan.new.dev c.tick-save.result c.tick-save.new.dev) c.load-plan.ensures.stays c.tick-save.ensures.did in
-    record { did = plan_did step (mind_of (g.D.Device.size c.args.dev.now) c.args.held.now c.args.dir.now) c.args.time c.args.slot c.args.ticking c.tick-save.result c.args.flow c.in-Ok.flow ws e c.load-plan.ensures.did d; stays = c.tick-save.ensures.stays ∙ c.load-plan.ensures.stays }
+    let d = subst (λ n. Did step (tick_save (mind_of n c.args.held.now c.args.dir.now) c.args.slot c.args.ticking c.in-Ok.flow) c.load_plan.new.dev c.tick_save.result c.tick_save.new.dev) c.load_plan.ensures.stays c.tick_save.ensures.did in
+    record { did = plan_did step (mind_of (g.D.Device.size c.args.dev.now) c.args.held.now c.args.dir.now) c.args.time c.args.slot c.args.ticking c.tick_save.result c.args.flow c.in-Ok.flow ws e c.load_plan.ensures.did d; stays = c.tick_save.ensures.stays ∙ c.load_plan.ensures.stays }
