@@ -6,6 +6,7 @@ use reading::LONGEST_TEXT;
 use reading::error::NoPlan;
 use std::alloc::{AllocError, Global};
 use std::io::{Read, Write};
+use std::process::ExitCode;
 use std::{env, fs, io};
 use tidy::{Place, TidyError, place_of, tidy};
 use wording::wording;
@@ -98,10 +99,10 @@ fn run(rt: &HostRuntime) -> anyhow::Result<bool> {
 }
 
 // Ends with status 1 where there was no plan to print.
-fn main(rt: HostRuntime) -> anyhow::Result<()> {
-    match run(&rt) {
-        Ok(true) => Ok(()),
-        Ok(false) => Err(anyhow!("no plan")),
-        Err(e) => Err(e),
+fn main(rt: HostRuntime) -> anyhow::Result<ExitCode> {
+    if run(&rt)? {
+        Ok(ExitCode::SUCCESS)
+    } else {
+        Ok(ExitCode::FAILURE)
     }
 }
