@@ -1,7 +1,8 @@
 // Plain Rust doing what `bench_lines` does, for comparison: a simulated memory in `Vec`s, and lines in a file.
 //
 //     rustc --edition 2021 -O bench/lines.rs -o target/plain_lines
-//     target/bin/bench_lines 100000 /tmp/lines.a && target/plain_lines 100000 /tmp/lines.b
+//     (cd crates/bench_lines && rt run)
+//     crates/bench_lines/out/bench_lines 100000 /tmp/lines.a && target/plain_lines 100000 /tmp/lines.b
 //
 // A round stores and loads 128 words of 16 lines, pushes these, and sets a fence.
 use std::fs::{File, OpenOptions};
