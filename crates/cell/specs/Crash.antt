@@ -123,6 +123,10 @@ cell_kept N big = record {
   doing = λ c s x m h. cell_does_lem N big c s m h;
 }
 
+-- in memory of a size that a house may have
+pub cell_keeps : (n : ℕ) → 32768 ≤ n → n ≤ 1099511627776 → Kept n cell_engine cell_sense Rest (λ s x m. Rest s m)
+cell_keeps n low high = cell_kept n (omega arith)
+
 -- ---- costs
 
 put_costs : (ws : List ℕ) → length ws ≡ 16 → Costs Any 1 17 3 2 (put_work ws)

@@ -10,8 +10,7 @@ ghost use Rattle.lines.specs.Caches.{lines_in};
 ghost use Rattle.cell.specs.Works.{get_work, put_work};
 ghost use Rattle.cell.specs.Cells.{Call, Reply, cell_engine, cell_sense, cell_of, Counts, Rest, CellCosts};
 ghost use Rattle.cell.specs.Trials.{Survives};
-ghost use Rattle.cell.specs.Crash.{cell_rests, cell_kept};
-ghost use Rattle.std.proofs.Common.{arith};
+ghost use Rattle.cell.specs.Crash.{cell_rests, cell_keeps};
 
 use device::{Device, Keeper, Layout, flip_stands, keeper_stands};
 use lines::cached::Cached;
@@ -80,7 +79,7 @@ impl Keeper for CellTerms {
 
     ghost light = { λ n s x m. Rest s m };
 
-    ghost kept = { λ n lo hi. cell_kept n (omega arith) };
+    ghost kept = { cell_keeps };
 }
 
 // Whatever is written to the spare copy before the flip: the words that the cell held, or the new ones, are left.
