@@ -1,5 +1,5 @@
 -- What holds of all that a work may yield; and that no call but a telling of the time changes the time. Assumes nothing.
-use Rattle.std.proofs.Common.{◌≡◌, ℕ, ◌+◌, ◌*◌, Bool, true, false, cond, ltb, leb, List, Some, None, Ok, Err, Option, Result, refl, ◌∙◌, subst}
+use Rattle.std.proofs.Common.{◌≡◌, ℕ, ◌+◌, ◌*◌, Bool, true, false, cond, ltb, leb, List, Some, None, Ok, Err, Option, Result, refl}
 use Rattle.plans.specs.Plan.{Name}
 use Rattle.plans.specs.declared.eval.Damaged.{Damaged}
 use Rattle.flows.specs.House.{Reply, No, Full'}
@@ -13,7 +13,6 @@ use Rattle.store.specs.Layout.{next_of, blocks_for, Mind}
 use Rattle.store.specs.Finds.{weight_over}
 use Rattle.store.specs.Room.{marked, chosen, looked_at}
 use Rattle.engine.specs.declared.take.Best.{Best}
-use Rattle.engine.specs.declared.take.Looking.{Looking}
 use Rattle.engine.specs.Works.{Answer, said, lost, by_slot, by_flow, by_tried, by_task, by_best, by_blocks, changes, at_flow, at_slot, show_flow, forget_flow, cancel_flow, longer_flow, report_plan, report_flow, hand_flow, take_end, take_work, born_work, start_blocks, start_free, start_work}
 
 pub data Always {A : Type 0} (P : A → Type 0) : Work A → Type 0 where

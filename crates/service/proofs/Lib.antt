@@ -1,2 +1,4 @@
 pub mod Papers
 pub mod Always
+pub mod Keys
+pub mod Serving

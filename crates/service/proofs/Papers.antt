@@ -1,6 +1,6 @@
 -- What was read of a text, from what the reader wrote. Assumes nothing.
-use Rattle.std.proofs.Common.{◌≡◌, ℕ, ◌-◌, ◌*◌, List, ◌++◌, take, Ok, Err, sym, refl, ap, ◌∙◌, subst, arith}
-use Rattle.plans.specs.Plan.{Block, size_of}
+use Rattle.std.proofs.Common.{◌≡◌, ℕ, ◌-◌, ◌*◌, List, ◌++◌, take, Ok, Err, sym, refl, ap, ◌∙◌, arith}
+use Rattle.plans.specs.Plan.{Block}
 use Rattle.plans.specs.Flat.{laid}
 use Rattle.plans.specs.Noted.{Noted}
 use Rattle.plans.proofs.Parts.{laid_length}

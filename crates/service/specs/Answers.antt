@@ -1,5 +1,5 @@
 -- The answer to a call. Assumes nothing.
-use Rattle.std.specs.Prelude.{◌≡◌, ℕ, ◌<◌, ◌≤◌, cond, List, [], ◌∷◌, ◌==◌}
+use Rattle.std.specs.Prelude.{ℕ, ◌<◌, ◌≤◌, cond, List, [], ◌∷◌, ◌==◌}
 use Rattle.flows.specs.House.{Call, No}
 use Rattle.device.specs.Lines.{Work}
 use Rattle.device.specs.Does.{Op}

@@ -24,8 +24,8 @@ pub struct House<D> {
 
 impl<D: Device> House<D> {
     fn show(&mut self, key: &[u8]) -> Reply
-        requires { Fit (size self.old.dev) self.old.held.time }
-        ensures { Served step size (acts_on (Show key.now ∷ [])) self.old.dev self.old.held self.old.dir result self.new.dev self.new.held self.new.dir }
+        requires { Fit (D.size self.old.dev) self.old.held.time }
+        ensures { Served D.step D.size (acts_on (Show key.now ∷ [])) self.old.dev self.old.held self.old.dir result self.new.dev self.new.held self.new.dir }
     {
         if !is_key(key) {
             return Reply::No(1);

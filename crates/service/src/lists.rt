@@ -15,7 +15,7 @@ pub fn is_key(key: &[u8]) -> bool
 // The words, one after the other.
 pub fn copy_words(words: Words<'_>, out: &mut [u64; 16])
     requires { length (words_held words) ≤ 16 }
-    ensures { take (length (words_held words)) out.new ≡ words_held words }
+    ensures { take (length (words_held words.entry)) out.new ≡ words_held words.entry }
 {
     for i in 0..words.len() {
         out[i] = words.get(i);
@@ -25,7 +25,7 @@ pub fn copy_words(words: Words<'_>, out: &mut [u64; 16])
 // The kinds, one after the other.
 pub fn copy_kinds(kinds: Kinds<'_>, out: &mut [u64; 64])
     requires { length (kinds_held kinds) ≤ 64 }
-    ensures { take (length (kinds_held kinds)) out.new ≡ kinds_held kinds }
+    ensures { take (length (kinds_held kinds.entry)) out.new ≡ kinds_held kinds.entry }
 {
     for i in 0..kinds.len() {
         out[i] = u64::from(kinds.get(i));
