@@ -1,5 +1,5 @@
 -- What each statement does on the words, by what its expression is worth.
-use Rattle.std.proofs.Common.{◌≡◌, ℕ, zero, suc, ◌+◌, ◌-◌, ◌<◌, ◌≤◌, true, false, cond, ◌&&◌, eqb, ltb, leb, ◌⊎◌, List, [], ◌∷◌, ◌++◌, length, get_or, take, drop, set, Some, None, Option, Result, sym, refl, ap, ◌∙◌, subst, inl, inr, append_assoc, arith, take-suc}
+use Rattle.std.proofs.Common.{◌≡◌, ℕ, zero, suc, ◌+◌, ◌<◌, ◌≤◌, true, false, cond, ◌&&◌, eqb, ltb, leb, ◌⊎◌, List, [], ◌∷◌, ◌++◌, length, get_or, take, drop, set, Some, None, Option, Result, sym, refl, ap, ◌∙◌, subst, inl, inr, append_assoc, arith, take-suc}
 use Rattle.std.proofs.lemmas.Bool.{lt-ltb, le-ltb, eq-eqb, ne_eqb, le-leb, lt-leb, cond-true, cond-false}
 use Rattle.runs.specs.declared.unit.Statement.{Statement}
 use Rattle.runs.specs.declared.unit.Statement.TheVariants.{Set, Do, Sleep, Hear, If, Return}
@@ -8,7 +8,7 @@ use Rattle.runs.specs.declared.step.Place.{Place}
 use Rattle.plans.proofs.Evals.{too_short, no_run, length_tops}
 use Rattle.plans.specs.Plan.{capped}
 use Rattle.plans.specs.Eval.{Out as Run, Bad, Stop, tops, run_e, One, no_value, one_value}
-use Rattle.runs.specs.Steps.{Out, Lost, Went, gone_to, ended_as, waits_at, asked_into, fails_to, with_value, worth_at, backs, with_all, does_w, busy, step_w, Stepped}
+use Rattle.runs.specs.Steps.{Out, Lost, Went, gone_to, ended_as, waits_at, asked_into, with_value, worth_at, backs, with_all, does_w, busy, step_w, Stepped}
 use Rattle.runs.specs.Machine.{spent}
 use Rattle.runs.specs.Units.{statement_at, deep_at}
 use Rattle.runs.specs.declared.step.Moved.{Moved}
@@ -21,15 +21,6 @@ value_lost o f h = ap (λ (p : One). with_value p f) h
 value_went : (o : One) (x e : ℕ) (f : ℕ → ℕ → Out) → o ≡ one_value x e → with_value o f ≡ f x e
 unfolding with_value
 value_went o x e f h = ap (λ (p : One). with_value p f) h
-
-pub fails_nowhere : (way : ℕ) (p r : Place) → way ≡ 0 → r ≡ ended_as Failed p → r ≡ fails_to way p
-unfolding fails_to
-fails_nowhere way p r e h = h ∙ ap (λ (w : ℕ). fails_to w p) (sym e)
-
-pub fails_to_lem : (way : ℕ) (p r : Place) → (way ≡ 0 → ⊥) → r ≡ gone_to (way - 1) p → r ≡ fails_to way p
-unfolding fails_to
-fails_to_lem zero p r n h = absurd (n refl)
-fails_to_lem (suc a) p r n h = let e : suc a - 1 ≡ a = omega arith in h ∙ ap (λ (k : ℕ). gone_to k p) e
 
 -- a stack from its bottom
 append_none : (xs : List ℕ) → xs ++ [] ≡ xs
@@ -109,21 +100,21 @@ module _ (room : ℕ) (ws : List ℕ) (p : Place) (vs : List ℕ) where
   unfolding with_all
   all_lost r f h = ap (λ (q : Run). with_all q f) h
 
-  pub do_bad : (t v next way task : ℕ) → v < 64 → run_e room vs (drop (task + 12) ws) (task + 12) [] ≡ Bad → does_w room ws t (Some (Do v next way task)) p vs ≡ Lost
+  pub do_bad : (t v next : ℕ) (way : Option ℕ) (task : ℕ) → v < 64 → run_e room vs (drop (task + 12) ws) (task + 12) [] ≡ Bad → does_w room ws t (Some (Do v next way task)) p vs ≡ Lost
   unfolding does_w
   do_bad t v next way task h k = cond-true (ltb v 64) _ Lost (lt-ltb v 64 h) ∙ all_lost (run_e room vs (drop (task + 12) ws) (task + 12) []) _ k
 
-  pub do_past : (t v next way task : ℕ) → (64 ≤ v) ⊎ ((v < 64) × (length ws ≤ task)) → does_w room ws t (Some (Do v next way task)) p vs ≡ Lost
+  pub do_past : (t v next : ℕ) (way : Option ℕ) (task : ℕ) → (64 ≤ v) ⊎ ((v < 64) × (length ws ≤ task)) → does_w room ws t (Some (Do v next way task)) p vs ≡ Lost
   unfolding does_w
   do_past t v next way task (inl a) = cond-false (ltb v 64) _ Lost (le-ltb v 64 a)
   do_past t v next way task (inr (a, l)) = do_bad t v next way task a (too_short room vs ws (task + 12) [] (omega arith))
 
-  pub do_many : (t v next way task n end : ℕ) (xs : List ℕ) → v < 64 → run_e room vs (drop (task + 12) ws) (task + 12) [] ≡ Stop (tops xs n) end → 16 < n → does_w room ws t (Some (Do v next way task)) p vs ≡ Lost
+  pub do_many : (t v next : ℕ) (way : Option ℕ) (task n end : ℕ) (xs : List ℕ) → v < 64 → run_e room vs (drop (task + 12) ws) (task + 12) [] ≡ Stop (tops xs n) end → 16 < n → does_w room ws t (Some (Do v next way task)) p vs ≡ Lost
   unfolding does_w with_all
   do_many t v next way task n end xs h k m =
       cond-true (ltb v 64) _ Lost (lt-ltb v 64 h) ∙ (ap (λ (q : Run). with_all q (λ zs. Went (asked_into v p) vs (record { kind = get_or ws task 0; args = zs; tries = get_or ws (task + 1) 0; pause = get_or ws (task + 2) 0 } ∷ []))) k ∙ (rw (length_tops xs n, lt-leb n 16 m) refl))
 
-  pub do_went : (t v next way task n end kind tries pause : ℕ) (xs ys : List ℕ) → v < 64 → run_e room vs (drop (task + 12) ws) (task + 12) [] ≡ Stop (tops xs n) end → n ≤ 16 → n ≤ length xs → take n ys ≡ take n xs → kind ≡ get_or ws task 0 → tries ≡ get_or ws (task + 1) 0 → pause ≡ get_or ws (task + 2) 0 →
+  pub do_went : (t v next : ℕ) (way : Option ℕ) (task n end kind tries pause : ℕ) (xs ys : List ℕ) → v < 64 → run_e room vs (drop (task + 12) ws) (task + 12) [] ≡ Stop (tops xs n) end → n ≤ 16 → n ≤ length xs → take n ys ≡ take n xs → kind ≡ get_or ws task 0 → tries ≡ get_or ws (task + 1) 0 → pause ≡ get_or ws (task + 2) 0 →
       does_w room ws t (Some (Do v next way task)) p vs ≡ Went (asked_into v p) vs (record { kind = kind; args = take n ys; tries = tries; pause = pause } ∷ [])
   unfolding does_w with_all
   do_went t v next way task n end kind tries pause xs ys h k few inside same ek et ep =

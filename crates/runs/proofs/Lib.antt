@@ -7,3 +7,4 @@ pub mod Arms
 pub mod Ties
 pub mod Loops
 pub mod Tidings
+pub mod Filled

@@ -1,4 +1,5 @@
 -- Many moves.
+use Rattle.std.specs.Option.{is_some}
 use Rattle.std.proofs.Common.{◌≡◌, ℕ, zero, suc, ◌+◌, ◌-◌, ◌<◌, ◌≤◌, Bool, true, false, cond, ◌&&◌, ◌⊎◌, List, [], ◌∷◌, length, Some, None, Ok, Err, Option, Result, sym, refl, ap, ◌∙◌, subst, inl, inr, arith}
 use Rattle.std.proofs.lemmas.Bool.{both_ways}
 use Rattle.runs.specs.declared.step.Phase.{Phase}
@@ -232,10 +233,18 @@ turn_lost room long ws t n p0 p vs0 vs e l h k = run_lost room ws t (n + 1) 1000
 pub turn_on : (room long : ℕ) (ws : List ℕ) (t n : ℕ) (p0 p : Place) (vs0 vs us : List ℕ) (m : Gone) → long ≡ room → moves_w room ws t n p0 vs0 ≡ Went p vs [] → step_w long ws t p vs ≡ as_out m us → moves_w room ws t (n + 1) p0 vs0 ≡ as_out m us
 turn_on room long ws t n p0 p vs0 vs us m e h k = more room ws t n p0 p vs0 vs (as_out m us) h (subst (λ (r : ℕ). step_w r ws t p vs ≡ as_out m us) e k)
 
-pub turn_wished : (room : ℕ) (ws : List ℕ) (t n : ℕ) (p0 : Place) (vs0 us : List ℕ) (m : Gone) (w : Want) → n ≤ 1000 → moves_w room ws t n p0 vs0 ≡ as_out m us → m.wish ≡ Some w → (n ≤ 1000) × (moves_w room ws t n p0 vs0 ≡ as_out m us) × (moves_w room ws t 1000 p0 vs0 ≡ as_out m us)
-turn_wished room ws t n p0 vs0 us m w l h e =
-    let q : as_out m us ≡ Went m.place us (wishes (Some w)) = ap (λ (o : Option Want). Went m.place us (wishes o)) e in
-    (l, h, run_wished room ws t n 1000 p0 m.place vs0 us _ l (h ∙ q) ∙ sym q)
+pub turn_wished : (room : ℕ) (ws : List ℕ) (t n : ℕ) (p0 : Place) (vs0 us : List ℕ) (m : Gone) → n ≤ 1000 → moves_w room ws t n p0 vs0 ≡ as_out m us → is_some m.wish ≡ true → (n ≤ 1000) × (moves_w room ws t n p0 vs0 ≡ as_out m us) × (moves_w room ws t 1000 p0 vs0 ≡ as_out m us)
+turn_wished room ws t n p0 vs0 us m l h e = go m.wish refl e
+  where
+    go : (o : Option Want) → m.wish ≡ o → is_some o ≡ true → (n ≤ 1000) × (moves_w room ws t n p0 vs0 ≡ as_out m us) × (moves_w room ws t 1000 p0 vs0 ≡ as_out m us)
+    go None q k = let z : ◌≡◌ {A = ℕ} 0 1 = cc in absurd (omega arith)
+    go (Some w) q k =
+        let r : as_out m us ≡ Went m.place us (wishes (Some w)) = ap (λ (o : Option Want). Went m.place us (wishes o)) q in
+        (l, h, run_wished room ws t n 1000 p0 m.place vs0 us _ l (h ∙ r) ∙ sym r)
 
-pub turn_none : (room : ℕ) (ws : List ℕ) (t n : ℕ) (p0 : Place) (vs0 us : List ℕ) (m : Gone) → moves_w room ws t n p0 vs0 ≡ as_out m us → m.wish ≡ None → moves_w room ws t n p0 vs0 ≡ Went m.place us []
-turn_none room ws t n p0 vs0 us m h e = h ∙ ap (λ (o : Option Want). Went m.place us (wishes o)) e
+pub turn_none : (room : ℕ) (ws : List ℕ) (t n : ℕ) (p0 : Place) (vs0 us : List ℕ) (m : Gone) → moves_w room ws t n p0 vs0 ≡ as_out m us → is_some m.wish ≡ false → moves_w room ws t n p0 vs0 ≡ Went m.place us []
+turn_none room ws t n p0 vs0 us m h e = go m.wish refl e
+  where
+    go : (o : Option Want) → m.wish ≡ o → is_some o ≡ false → moves_w room ws t n p0 vs0 ≡ Went m.place us []
+    go None q k = h ∙ ap (λ (o : Option Want). Went m.place us (wishes o)) q
+    go (Some w) q k = let z : ◌≡◌ {A = ℕ} 0 1 = cc in absurd (omega arith)

@@ -9,7 +9,7 @@ use Rattle.plans.specs.Plan.{Name, Expr, Lit, Var, Plus, Minus, Times, Less, Sam
 use Rattle.plans.specs.Flat.{Way, Nowhere, To, way_word, entry, code_of, codes_of, padded, under, go_on, lay_stmt, lay, laid}
 use Rattle.plans.proofs.Drafts.{code_length, padded_length, lay_stmt_length, lay_length, Head, head_of, rest_of}
 use Rattle.runs.specs.Machine.{Act, SetOp, DoOp, SleepOp, HearOp, IfOp, WhileOp, ReturnOp, FailOp, EndOp, Wrong, op, FlatStmt, Flat, FlatRest, Stack, Control}
-use Rattle.runs.specs.Units.{statement_of, statement_at}
+use Rattle.runs.specs.Units.{way_in, statement_of, statement_at}
 use Rattle.runs.specs.Decode.{Grown, grown, join_tree, leaf, paired_t, negated_t, acts_t, onto_t, or_grown, grow, trees_at, one_tree, back, all_trees, way_from, letters, act_of, code_in, BeginsAlike}
 
 -- entries --------------------------------------------------------------------
@@ -174,8 +174,8 @@ turn_at_lem room ws a w k d y z tail h e =
     let q : get_or ws (suc a) 0 / 32 ≡ d = ap (λ (j : ℕ). j / 32) f ∙ deep_is k d h in
     λ i. op (q i) (act_of room ws (statement_of (p i) (suc a) (g i) (get_or ws (suc a + 2) 0) (get_or ws (suc a + 3) 0)))
 
-way_back : (way : Way) → way_from (way_word way) ≡ way
-unfolding way_from way_word
+way_back : (way : Way) → way_from (way_in (way_word way)) ≡ way
+unfolding way_from way_in way_word
 way_back Nowhere = refl
 way_back (To a) = refl
 
@@ -227,7 +227,7 @@ do_at room ws a d v next kind tries pause count way es rest h k low ok s few =
     let u : Head ws a (entry 2 d) v next (way_word way) t1 = head_of ws a (entry 2 d) v next (way_word way) t1 h in
     let t : Head ws (a + 4) kind tries pause count (0 ∷ 0 ∷ 0 ∷ 0 ∷ 0 ∷ 0 ∷ 0 ∷ 0 ∷ (codes_of es ++ rest)) = head_of ws (a + 4) kind tries pause count (0 ∷ 0 ∷ 0 ∷ 0 ∷ 0 ∷ 0 ∷ 0 ∷ 0 ∷ (codes_of es ++ rest)) u.behind in
     let p : drop (a + 4 + 12) ws ≡ codes_of es ++ rest = rest_of ws (a + 4) 12 (kind ∷ tries ∷ pause ∷ count ∷ 0 ∷ 0 ∷ 0 ∷ 0 ∷ 0 ∷ 0 ∷ 0 ∷ 0 ∷ []) (codes_of es ++ rest) u.behind refl in
-    op_at room ws a 2 d v next (way_word way) t1 (omega arith) h ∙ ap (op d) (cond-true (ltb v 64) _ Wrong low ∙ (trees_at_lem room ws (a + 4 + 12) es rest (λ ts. DoOp v (get_or ws (a + 4) 0) ts (get_or ws (a + 4 + 1) 0) (get_or ws (a + 4 + 2) 0) next (way_from (way_word way))) p k ok s few ∙ λ i. DoOp v (t.first i) es (t.second i) (t.third i) next (way_back way i)))
+    op_at room ws a 2 d v next (way_word way) t1 (omega arith) h ∙ ap (op d) (cond-true (ltb v 64) _ Wrong low ∙ (trees_at_lem room ws (a + 4 + 12) es rest (λ ts. DoOp v (get_or ws (a + 4) 0) ts (get_or ws (a + 4 + 1) 0) (get_or ws (a + 4 + 2) 0) next (way_from (way_in (way_word way)))) p k ok s few ∙ λ i. DoOp v (t.first i) es (t.second i) (t.third i) next (way_back way i)))
 
 hear_at_lem : (room : ℕ) (ws : List ℕ) (a d v w next : ℕ) (n : Name) (e : Expr) (rest : List ℕ) → drop a ws ≡ entry 4 d ∷ v ∷ next ∷ w ∷ (padded n ++ (code_of e ++ rest)) → Halting rest → ltb v 64 ≡ true → ltb w 64 ≡ true → word_ok n ≡ true → expr_ok e ≡ true → expr_size e ≤ room → code_in room ws a ≡ op d (HearOp v w n e next)
 unfolding act_of

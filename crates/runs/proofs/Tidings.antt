@@ -1,5 +1,7 @@
 -- What is told to a flow that waits, on a plan's words.
-use Rattle.std.proofs.Common.{◌≡◌, ℕ, zero, suc, ◌+◌, ◌<◌, Bool, true, false, cond, ◌&&◌, ltb, leb, List, [], ◌∷◌, length, get_or, drop, set, Some, None, Ok, Err, Option, Result, sym, refl, ap, ◌∙◌, subst, arith, length-set}
+use mir.Val.{bool_byte}
+use Rattle.std.specs.Option.{is_some, unwrap_or}
+use Rattle.std.proofs.Common.{◌≡◌, ℕ, ◌+◌, ◌<◌, Bool, true, false, cond, ◌&&◌, ltb, leb, List, [], ◌∷◌, length, get_or, drop, set, Some, None, Ok, Err, Option, Result, sym, refl, ap, ◌∙◌, subst, arith, length-set}
 use Rattle.std.proofs.lemmas.Bool.{both_ways}
 use Rattle.plans.specs.declared.eval.Damaged.{Damaged}
 use Rattle.plans.specs.Plan.{Expr, Flow, Busy as busy_p, Tasked as tasked_p, at, goes_on, broken, heard}
@@ -15,7 +17,7 @@ use Rattle.runs.specs.Units.{statement_at}
 use Rattle.runs.specs.Decode.{Grown, withered, grown, trees_at, one_tree, back, all_trees, way_from, letters, act_of, code_in}
 use Rattle.runs.specs.Steps.{Out, Lost, Went, gone_to, fails_to, Placed}
 use Rattle.runs.specs.Carried.{phase_in, flow_in}
-use Rattle.runs.specs.Events.{task_in, with_task, by_task, NowIs}
+use Rattle.runs.specs.Events.{task_in, with_task, by_task, worth, came, NowIs}
 use Rattle.runs.specs.declared.event.Task.{Task as Found}
 use Rattle.runs.proofs.Told.{tasked_both, broken_alike, result_alike, wakes_alike, heard_alike}
 use Rattle.runs.proofs.Ties.{look_set}
@@ -36,7 +38,7 @@ cond_no_task false a h = refl
 pub record Task (room : ℕ) (ws : List ℕ) (s : Option Statement) : Type 0 where
   pub v : ℕ
   pub next : ℕ
-  pub way : ℕ
+  pub way : Option ℕ
   pub task : ℕ
   pub is : s ≡ Some (Do v next way task)
   pub goes : after_do (act_of room ws s) ≡ next
@@ -79,10 +81,10 @@ tasked_in : (ws : List ℕ) (p : Place) (k : ℕ) → p.phase ≡ Tasked k → p
 unfolding phase_in
 tasked_in ws p k e = ap (phase_in ws) e
 
-fails_in_lem : (ws vs : List ℕ) (y : FlatFlow) (p : Place) (way : ℕ) → fbroken (way_from way) (flow_in ws p vs y) ≡ flow_in ws (fails_to way p) vs y
+fails_in_lem : (ws vs : List ℕ) (y : FlatFlow) (p : Place) (way : Option ℕ) → fbroken (way_from way) (flow_in ws p vs y) ≡ flow_in ws (fails_to way p) vs y
 unfolding fbroken way_from fails_to phase_in
-fails_in_lem ws vs y p zero = refl
-fails_in_lem ws vs y p (suc a) = refl
+fails_in_lem ws vs y p None = refl
+fails_in_lem ws vs y p (Some a) = refl
 
 -- what came out, as what the flow is
 abbrev Comes : (room : ℕ) → List ℕ → FlatFlow → Out → Flow → Type 0
@@ -100,7 +102,7 @@ broken_in ws p r h room k vs x y e is =
     let b : Is (code_in room ws) (flow_in ws (fails_to t.way p) vs y) (broken x.frames x) = subst (λ (f : FlatFlow). Is (code_in room ws) f (broken x.frames x)) (ap (λ (w : Way). fbroken w (flow_in ws p vs y)) t.fails ∙ fails_in_lem ws vs y p t.way) (broken_alike (code_in room ws) (flow_in ws p vs y) x k (tasked_in ws p k e) is) in
     go r t.way (subst (λ (s : Option Statement). Placed r [] (by_task s (λ next way. Went (fails_to way p) [] []))) t.is h) b
   where
-    go : (q : Result Place Damaged) (w : ℕ) → Placed q [] (Went (fails_to w p) [] []) → Is (code_in room ws) (flow_in ws (fails_to w p) vs y) (broken x.frames x) → NowIs room ws y q vs (broken x.frames x)
+    go : (q : Result Place Damaged) (w : Option ℕ) → Placed q [] (Went (fails_to w p) [] []) → Is (code_in room ws) (flow_in ws (fails_to w p) vs y) (broken x.frames x) → NowIs room ws y q vs (broken x.frames x)
     go (Ok s) w g b = let z : fails_to w p ≡ s = cc in subst (λ (m : Place). Is (code_in room ws) (flow_in ws m vs y) (broken x.frames x)) z b
     go (Err d) w g b = let z : ◌≡◌ {A = ℕ} 0 1 = cc in absurd (omega arith)
 
@@ -112,13 +114,23 @@ result_in ws p v vs us r all low h room k x y e is =
     let b : Is (code_in room ws) (flow_in ws (gone_to t.next p) (set vs p.into v) y) (goes_on x.frames (at x.into v x.vars) x) = subst (λ (g : FlatFlow). Is (code_in room ws) g (goes_on x.frames (at x.into v x.vars) x)) f (result_alike (code_in room ws) (flow_in ws p vs y) x k v (tasked_in ws p k e) is) in
     now_is room ws y r us (Went (gone_to t.next p) (set vs p.into v) []) (goes_on x.frames (at x.into v x.vars) x) (subst (λ (s : Option Statement). Placed r us (by_task s (λ next way. Went (gone_to next p) (set vs p.into v) []))) t.is h) b
 
-pub task_went : (s : Option Statement) (f : ℕ → ℕ → Out) (t : Found) (o : Out) → Some t ≡ task_in s → f t.next t.way ≡ o → by_task s f ≡ o
+pub task_went : (s : Option Statement) (f : ℕ → Option ℕ → Out) (t : Found) (o : Out) → Some t ≡ task_in s → f t.next t.way ≡ o → by_task s f ≡ o
 unfolding with_task
 task_went s f t o h e = ap (λ (q : Option Found). with_task q f) (sym h) ∙ e
 
-pub task_lost : (s : Option Statement) (f : ℕ → ℕ → Out) → None ≡ task_in s → by_task s f ≡ Lost
+pub task_lost : (s : Option Statement) (f : ℕ → Option ℕ → Out) → None ≡ task_in s → by_task s f ≡ Lost
 unfolding with_task
 task_lost s f h = ap (λ (q : Option Found). with_task q f) (sym h)
+
+pub worth_is : (o : Option ℕ) → unwrap_or o 0 ≡ worth o
+unfolding worth
+worth_is None = refl
+worth_is (Some v) = refl
+
+pub came_is : (o : Option ℕ) → bool_byte (is_some o) ≡ came o
+unfolding came
+came_is None = refl
+came_is (Some v) = refl
 
 pub heard_in : (p r : Place) (v w n came : ℕ) (vs : List ℕ) → length vs ≡ 64 → v < 64 → w < 64 → r ≡ gone_to p.here p → (room : ℕ) (ws : List ℕ) (x : Flow) (y : FlatFlow) → is_calm (phase_in ws p.phase) ≡ true → Is (code_in room ws) (flow_in ws p vs y) x → Is (code_in room ws) (flow_in ws r (set (set vs v n) w came) y) (heard v w n came x.box x.frames x)
 unfolding phase_in

@@ -139,8 +139,8 @@ does_tie room ws now (Some (While next e)) p vs y all = one_tie ws y now vs (flo
 does_tie room ws now (Some (Guard first)) p vs y all = inr (refl, all)
 does_tie room ws now (Some (Go next)) p vs y all = inr (refl, all)
 does_tie room ws now (Some (Return e)) p vs y all = one_tie ws y now vs (flow_in ws p vs y) (trees_at room ws e) (run_e room vs (drop e ws) e []) (λ t end. ReturnOp t) (λ x end. Went (ended_as (Ended x) p) vs []) (agrees room vs all (drop e ws) e []) (λ t end. (refl, all))
-does_tie room ws now (Some (Fail zero)) p vs y all = inr (refl, all)
-does_tie room ws now (Some (Fail (suc a))) p vs y all = inr (refl, all)
+does_tie room ws now (Some (Fail None)) p vs y all = inr (refl, all)
+does_tie room ws now (Some (Fail (Some a))) p vs y all = inr (refl, all)
 does_tie room ws now (Some End) p vs y all = inr (refl, all)
 
 busy_same : (ws : List ℕ) (q : Phase) → is_busy (phase_in ws q) && true ≡ busy q

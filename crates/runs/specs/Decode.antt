@@ -91,9 +91,9 @@ all_trees (grown st end) f = cond (nat_le (length st) 16) (f (back st [])) Wrong
 
 -- statements -------------------------------------------------------------------
 
-unfoldable pub way_from : ℕ → Way
-way_from zero = Nowhere
-way_from (suc a) = To a
+unfoldable pub way_from : Option ℕ → Way
+way_from None = Nowhere
+way_from (Some a) = To a
 
 -- a name's letters, up to the first zero
 unfoldable pub letters : ℕ → List ℕ → Name

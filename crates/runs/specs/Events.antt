@@ -29,12 +29,21 @@ abbrev pub task_in : Option Statement → Option Task
 task_in None = None
 task_in (Some s) = task_of s
 
-unfoldable pub with_task : Option Task → (ℕ → ℕ → Out) → Out
+unfoldable pub with_task : Option Task → (ℕ → Option ℕ → Out) → Out
 with_task None f = Lost
 with_task (Some t) f = f t.next t.way
 
-abbrev pub by_task : Option Statement → (ℕ → ℕ → Out) → Out
+abbrev pub by_task : Option Statement → (ℕ → Option ℕ → Out) → Out
 by_task s f = with_task (task_in s) f
+
+-- what a hearing's variables get: the word's value and 1, or 0 twice where none came in time
+unfoldable pub worth : Option ℕ → ℕ
+worth None = 0
+worth (Some v) = v
+
+unfoldable pub came : Option ℕ → ℕ
+came None = 0
+came (Some v) = 1
 
 -- the flow of the meaning as it is then; words that are of a plan are never damaged
 abbrev pub NowIs : (room : ℕ) → (words : List ℕ) → FlatFlow → Result Place Damaged → (after : List ℕ) → Flow → Type 0

@@ -1,5 +1,5 @@
 -- What a run returns. Assumes nothing.
-use Rattle.std.specs.Prelude.{◌≡◌, ℕ, ◌≤◌, Bool, false, List, Ok, Err, Result}
+use Rattle.std.specs.Prelude.{◌≡◌, ℕ, ◌≤◌, Bool, false, List, None, Ok, Err, Result}
 use Rattle.plans.specs.declared.eval.Damaged.{Damaged}
 use Rattle.plans.specs.Plan.{Moved as Meant}
 use Rattle.runs.specs.declared.flow.Ran.{Ran}
@@ -9,6 +9,10 @@ use Rattle.runs.specs.Machine.{FlatFlow, Follows}
 use Rattle.runs.specs.Decode.{code_in}
 use Rattle.runs.specs.Steps.{Out, Lost, Went, moves_w, wishes}
 use Rattle.runs.specs.Carried.{flow_in, listening}
+
+-- a run that has come here in so many moves, with no wish
+abbrev pub stopped_at : Place → (moves : ℕ) → Ran
+stopped_at p n = record { moved = record { place = p; wish = None }; moves = n }
 
 abbrev pub as_out : Moved → List ℕ → Out
 as_out m vs = Went m.place vs (wishes m.wish)

@@ -1,5 +1,5 @@
 -- One move on the words, as a function: what `step` does, on damaged words too. Assumes nothing.
-use Rattle.std.specs.Prelude.{◌≡◌, ℕ, zero, suc, ◌+◌, Bool, true, false, cond, ◌&&◌, List, [], ◌∷◌, length, take, drop, Some, None, Ok, Err, Option, Result, ◌==◌, nat_le, nat_lt, slice_index, slice_set}
+use Rattle.std.specs.Prelude.{◌≡◌, ℕ, zero, suc, ◌+◌, Bool, true, false, cond, ◌&&◌, List, [], ◌∷◌, ◌++◌, length, take, drop, Some, None, Ok, Err, Option, Result, replicate, ◌==◌, nat_le, nat_lt, slice_index, slice_set}
 use Rattle.plans.specs.declared.eval.Damaged.{Damaged}
 use Rattle.plans.specs.Plan.{Wish as Wished, capped}
 use Rattle.plans.specs.Eval.{Out as Run, Bad, Stop, run_e, One, no_value, one_value, one_of}
@@ -30,9 +30,9 @@ waits_at q a p = record { phase = q; here = a; steps = p.steps + 1; into = p.int
 abbrev pub asked_into : ℕ → Place → Place
 asked_into v p = record { phase = Tasked p.steps; here = p.here; steps = p.steps + 1; into = v }
 
-unfoldable pub fails_to : ℕ → Place → Place
-fails_to zero p = ended_as Failed p
-fails_to (suc a) p = gone_to a p
+unfoldable pub fails_to : Option ℕ → Place → Place
+fails_to None p = ended_as Failed p
+fails_to (Some a) p = gone_to a p
 
 unfoldable pub with_value : One → (ℕ → ℕ → Out) → Out
 with_value no_value f = Lost
@@ -49,6 +49,10 @@ backs (x ∷ st) xs = backs st (x ∷ xs)
 unfoldable pub with_all : Run → (List ℕ → Out) → Out
 with_all Bad f = Lost
 with_all (Stop st end) f = cond (nat_le (length st) 16) (f (backs st [])) Lost
+
+-- sixteen words, with zeros behind the last of these
+unfoldable pub fill : List ℕ → List ℕ
+fill xs = take 16 (xs ++ replicate 16 0)
 
 -- what a statement does
 unfoldable pub does_w : (room : ℕ) → (ws : List ℕ) → (time : ℕ) → Option Statement → Place → (vars : List ℕ) → Out

@@ -4,6 +4,7 @@
 pub mod event;
 pub mod flow;
 pub mod step;
+pub mod time;
 pub mod unit;
 
 ghost use Rattle.runs.specs.Alike.{Alike};

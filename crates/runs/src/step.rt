@@ -6,13 +6,14 @@ ghost use Rattle.runs.specs.Machine.{FlatFlow, Is};
 ghost use Rattle.runs.specs.Decode.{code_in};
 ghost use Rattle.runs.specs.Carried.{flow_in, Quiet};
 ghost use Rattle.runs.specs.Runs.{MovedTo};
-ghost use Rattle.runs.specs.Steps.{Out, busy, gone_to, ended_as, fails_to, does_w, step_w, Placed, Stepped};
+ghost use Rattle.runs.specs.Steps.{Out, fill, busy, gone_to, ended_as, fails_to, does_w, step_w, Placed, Stepped};
 
+use crate::time::Time;
 use crate::unit::{Statement, deep_at, statement_at, word_at};
 use plans::eval::{Damaged, Stopped, Valued, eval, run};
 
 // What a flow is at.
-#[derive(Clone, Copy)]
+#[derive(Clone, Copy, Debug, PartialEq, Eq)]
 pub enum Phase {
     Busy,
     // it waits for the task that it began as this step
@@ -69,42 +70,31 @@ pub fn goes(place: Place, here: u64) -> Place
     Place {
         phase: Phase::Busy,
         here: here as usize,
-        steps: place.steps,
-        into: place.into,
+        ..place
     }
 }
 
 fn ends(place: Place, phase: Phase) -> Place
     ensures { result ≡ ended_as phase place }
 {
-    Place {
-        phase,
-        here: place.here,
-        steps: place.steps,
-        into: place.into,
-    }
+    Place { phase, ..place }
 }
 
 // A failure goes to the nearest guard around it; where there is none the flow has failed.
-pub fn fails(place: Place, way: u64) -> Place
+pub fn fails(place: Place, way: Option<u64>) -> Place
     ensures { result ≡ fails_to way place }
 {
-    if way == 0 {
-        return ends(place, Phase::Failed);
+    match way {
+        Some(other) => goes(place, other),
+        None => ends(place, Phase::Failed),
     }
-    goes(place, way - 1)
 }
 
 // No longer than 2 to the 62 ms.
-fn until(time: u64, wait: u64) -> u64
-    requires { time ≤ 4611686018427387904 }
+fn until(time: Time, wait: u64) -> u64
     ensures { result ≡ time + capped wait }
 {
-    if wait < 4611686018427387904 {
-        time + wait
-    } else {
-        time + 4611686018427387904
-    }
+    time.ms() + wait.min(4611686018427387904)
 }
 
 fn sets(
@@ -113,10 +103,9 @@ fn sets(
     var: u64,
     next: u64,
     expr: usize,
-    vars: &mut [u64],
+    vars: &mut [u64; 64],
     stack: &mut [u64],
 ) -> Result<Place, Damaged>
-    requires { length vars.old ≡ 64 }
     ensures { Placed result vars.new (does_w (length stack.old) words.now 0 (some (Set var next expr)) place vars.old) }
 {
     if var >= 64 {
@@ -133,7 +122,7 @@ fn branches(
     place: Place,
     other: u64,
     expr: usize,
-    vars: &[u64],
+    vars: &[u64; 64],
     stack: &mut [u64],
 ) -> Result<Place, Damaged>
     ensures { Placed result vars.now (does_w (length stack.old) words.now 0 (some (If other expr)) place vars.now) }
@@ -149,7 +138,7 @@ fn gives(
     words: &[u64],
     place: Place,
     expr: usize,
-    vars: &[u64],
+    vars: &[u64; 64],
     stack: &mut [u64],
 ) -> Result<Place, Damaged>
     ensures { Placed result vars.now (does_w (length stack.old) words.now 0 (some (Return expr)) place vars.now) }
@@ -163,12 +152,11 @@ fn sleeps(
     place: Place,
     next: u64,
     expr: usize,
-    time: u64,
-    vars: &[u64],
+    time: Time,
+    vars: &[u64; 64],
     stack: &mut [u64],
 ) -> Result<Place, Damaged>
-    requires clock { time ≤ 4611686018427387904 }
-    requires few { place.steps < 4611686018427387904 }
+    requires { place.steps < 4611686018427387904 }
     ensures { Placed result vars.now (does_w (length stack.old) words.now time (some (Sleep next expr)) place vars.now) }
 {
     let Valued { value, .. } = eval(words, expr, vars, stack)?;
@@ -179,7 +167,7 @@ fn sleeps(
         phase,
         here: next as usize,
         steps: place.steps + 1,
-        into: place.into,
+        ..place
     })
 }
 
@@ -191,13 +179,11 @@ fn listens(
     came: u64,
     next: u64,
     name: usize,
-    time: u64,
-    vars: &[u64],
+    time: Time,
+    vars: &[u64; 64],
     stack: &mut [u64],
 ) -> Result<Place, Damaged>
-    requires clock { time ≤ 4611686018427387904 }
-    requires few { place.steps < 4611686018427387904 }
-    requires small { length words.now ≤ 16384 }
+    requires { place.steps < 4611686018427387904 }
     ensures { Placed result vars.now (does_w (length stack.old) words.now time (some (Hear var came next name)) place vars.now) }
 {
     if var >= 64 || came >= 64 || name >= words.len() {
@@ -214,19 +200,17 @@ fn listens(
         phase,
         here: next as usize,
         steps: place.steps + 1,
-        into: place.into,
+        ..place
     })
 }
 
-// The first values of a stack, of which there are at most as many as a task may have arguments.
-fn first_values(stack: &[u64], count: usize) -> [u64; 16]
-    requires { (count ≤ 16) × (count ≤ length stack.now) }
-    ensures { take count result ≡ take count stack.now }
+// The first `count` of the values, and zeros behind them.
+pub fn first_args(values: &[u64], count: usize) -> [u64; 16]
+    requires { (count ≤ 16) × (count ≤ length values.now) }
+    ensures { result ≡ fill (take count values.now) }
 {
     let mut args = [0; 16];
-    for i in 0..count {
-        args[i] = stack[i];
-    }
+    args[0..count].copy_from_slice(&values[0..count]);
     args
 }
 
@@ -236,13 +220,12 @@ fn asks(
     place: Place,
     var: u64,
     next: u64,
-    way: u64,
+    way: Option<u64>,
     task: usize,
-    vars: &[u64],
+    vars: &[u64; 64],
     stack: &mut [u64],
 ) -> Result<Moved, Damaged>
-    requires few { place.steps < 4611686018427387904 }
-    requires small { length words.now ≤ 16384 }
+    requires { place.steps < 4611686018427387904 }
     ensures { Stepped result vars.now (does_w (length stack.old) words.now 0 (some (Do var next way task)) place vars.now) }
 {
     if var >= 64 || task >= words.len() {
@@ -252,7 +235,7 @@ fn asks(
     if count > 16 {
         return Err(Damaged);
     }
-    let args = first_values(stack, count);
+    let args = first_args(stack, count);
     let wish = Wish {
         kind: word_at(words, task),
         args,
@@ -262,9 +245,9 @@ fn asks(
     };
     let place = Place {
         phase: Phase::Tasked { step: place.steps },
-        here: place.here,
         steps: place.steps + 1,
         into: var,
+        ..place
     };
     Ok(Moved {
         place,
@@ -276,23 +259,13 @@ fn asks(
 fn wishless(place: Result<Place, Damaged>) -> Result<Moved, Damaged>
     ensures { (vs : List ℕ) (o : Out) → Placed place vs o → Stepped result vs o }
 {
-    match place {
-        Ok(place) => Ok(Moved { place, wish: None }),
-        Err(damaged) => Err(damaged),
-    }
+    place.map(|place| Moved { place, wish: None })
 }
 
 pub fn is_busy(phase: Phase) -> bool
     ensures { result ≡ busy phase }
 {
-    match phase {
-        Phase::Busy => true,
-        Phase::Tasked { .. } => false,
-        Phase::Asleep { .. } => false,
-        Phase::Listens { .. } => false,
-        Phase::Ended { .. } => false,
-        Phase::Failed => false,
-    }
+    matches!(phase, Phase::Busy)
 }
 
 // What a statement does.
@@ -300,14 +273,11 @@ fn does(
     words: &[u64],
     place: Place,
     statement: Statement,
-    time: u64,
-    vars: &mut [u64],
+    time: Time,
+    vars: &mut [u64; 64],
     stack: &mut [u64],
 ) -> Result<Moved, Damaged>
-    requires clock { time ≤ 4611686018427387904 }
-    requires few { place.steps < 4611686018427387904 }
-    requires small { length words.now ≤ 16384 }
-    requires all { length vars.old ≡ 64 }
+    requires { place.steps < 4611686018427387904 }
     ensures { Stepped result vars.new (does_w (length stack.old) words.now time (some statement) place vars.old) }
 {
     match statement {
@@ -345,13 +315,10 @@ fn does(
 fn walk(
     words: &[u64],
     place: Place,
-    time: u64,
-    vars: &mut [u64],
+    time: Time,
+    vars: &mut [u64; 64],
     stack: &mut [u64],
 ) -> Result<Moved, Damaged>
-    requires clock { time ≤ 4611686018427387904 }
-    requires small { length words.now ≤ 16384 }
-    requires all { length vars.old ≡ 64 }
     ensures { Stepped result vars.new (step_w (length stack.old) words.now time place vars.old) }
 {
     if !is_busy(place.phase) {
@@ -374,13 +341,10 @@ fn walk(
 pub fn step(
     words: &[u64],
     place: Place,
-    time: u64,
-    vars: &mut [u64],
+    time: Time,
+    vars: &mut [u64; 64],
     stack: &mut [u64],
 ) -> Result<Moved, Damaged>
-    requires clock { time ≤ 4611686018427387904 }
-    requires small { length words.now ≤ 16384 }
-    requires all { length vars.old ≡ 64 }
     ensures flat { Stepped result vars.new (step_w (length stack.old) words.now time place vars.old) }
     ensures meant { (x : Meant) (y : FlatFlow) → Quiet (code_in (length stack.old) words.now place.here).act y.box → Is (code_in (length stack.old) words.now) (flow_in words.now place vars.old y) x → MovedTo (length stack.old) words.now y result vars.new (further time (still x)) }
 {

@@ -1,22 +1,22 @@
 // What a unit of the flat form says.
-ghost use Rattle.std.specs.Prelude.{◌≡◌, ◌≤◌, length, slice_index};
-ghost use Rattle.runs.specs.Units.{statement_of, statement_at, deep_at};
+ghost use Rattle.std.specs.Prelude.{◌≡◌, ◌^◌, ◌<◌, slice_index};
+ghost use Rattle.runs.specs.Units.{way_in, statement_of, statement_at, deep_at};
 
 use plans::kinds;
 
 // A statement, with the addresses at which control goes on and at which its words begin.
-#[derive(Clone, Copy)]
+#[derive(Clone, Copy, Debug, PartialEq, Eq)]
 pub enum Statement {
     Set {
         var: u64,
         next: u64,
         expr: usize,
     },
-    // `way`: where a failure goes, and 1 more, or 0 where no guard takes it
+    // `way`: where a failure goes, if a guard takes it
     Do {
         var: u64,
         next: u64,
-        way: u64,
+        way: Option<u64>,
         task: usize,
     },
     Sleep {
@@ -50,7 +50,7 @@ pub enum Statement {
         expr: usize,
     },
     Fail {
-        way: u64,
+        way: Option<u64>,
     },
     End,
 }
@@ -59,13 +59,20 @@ pub enum Statement {
 pub fn word_at(words: &[u64], at: usize) -> u64
     ensures { result ≡ slice_index words.now at }
 {
-    if at < words.len() { words[at] } else { 0 }
+    words.get(at).copied().unwrap_or(0)
+}
+
+// Where a failure goes, by its word: the address and 1 more, or 0 where no guard takes it.
+fn way_of(word: u64) -> Option<u64>
+    ensures { result ≡ way_in word }
+{
+    word.checked_sub(1)
 }
 
 // The statement of a kind, with the three words behind its first. A loop as it turns, and the step out of a guard,
 // begin one word behind their unit: so what is the third word for others is their second.
 fn statement_of(kind: u64, at: usize, second: u64, third: u64, fourth: u64) -> Option<Statement>
-    requires { at ≤ 16384 }
+    requires { at < 2 ^ 61 }
     ensures { result ≡ statement_of kind at second third fourth }
 {
     match kind {
@@ -77,7 +84,7 @@ fn statement_of(kind: u64, at: usize, second: u64, third: u64, fourth: u64) -> O
         kinds::DO => Some(Statement::Do {
             var: second,
             next: third,
-            way: fourth,
+            way: way_of(fourth),
             task: at + 4,
         }),
         kinds::SLEEP => Some(Statement::Sleep {
@@ -105,7 +112,9 @@ fn statement_of(kind: u64, at: usize, second: u64, third: u64, fourth: u64) -> O
         kinds::GUARD => Some(Statement::Guard { first: at + 4 }),
         kinds::LEAVE => Some(Statement::Go { next: second }),
         kinds::RETURN => Some(Statement::Return { expr: at + 4 }),
-        kinds::FAIL => Some(Statement::Fail { way: fourth }),
+        kinds::FAIL => Some(Statement::Fail {
+            way: way_of(fourth),
+        }),
         kinds::PART => Some(Statement::Go { next: third }),
         kinds::END => Some(Statement::End),
         _ => None,
@@ -114,7 +123,6 @@ fn statement_of(kind: u64, at: usize, second: u64, third: u64, fourth: u64) -> O
 
 // The statement at an address.
 pub fn statement_at(words: &[u64], at: usize) -> Option<Statement>
-    requires { length words.now ≤ 16384 }
     ensures { result ≡ statement_at words.now at }
 {
     if at >= words.len() {

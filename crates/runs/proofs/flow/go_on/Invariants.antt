@@ -1,12 +1,7 @@
-use Rattle.std.proofs.Common.{◌≡◌, ◌-◌, ◌≤◌, [], length}
+use Rattle.std.proofs.Common.{◌≡◌, [], length}
 use Rattle.runs.specs.Steps.{Went, moves_w}
 use Rattle.runs.proofs.flow.go_on.Given as goal
 
 abbrev pub invariant-loop-moves : goal.invariant-loop-moves
 invariant-loop-moves l =
-    (l.moves ≤ 1000)
-    × (length l.vars ≡ 64)
-    × (moves_w (length l.initial.stack) l.words l.time l.moves l.initial.here l.initial.vars ≡ Went l.here l.vars [])
-
-abbrev pub decreases-loop-moves : goal.decreases-loop-moves
-decreases-loop-moves l = 1000 - l.moves
+    moves_w (length l.initial.stack) l.words l.time l.moves l.initial.here l.initial.vars ≡ Went l.here l.vars []

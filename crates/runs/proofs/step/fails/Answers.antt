@@ -1,8 +1,11 @@
-use Rattle.runs.proofs.Arms.{fails_nowhere, fails_to_lem}
+use Rattle.std.proofs.Common.{rules}
+use Rattle.runs.specs.Steps.{fails_to}
 use Rattle.runs.proofs.step.fails.Goals as goal
 
-pub returns-then-way-eq0 : goal.returns-then-way-eq0
-returns-then-way-eq0 c = fails_nowhere c.args.way c.args.place c.ends.result c.if-way-eq0.true c.ends.ensures
+pub returns-in-Some : goal.returns-in-Some
+unfolding fails_to
+returns-in-Some c = search rules
 
-pub returns : goal.returns
-returns c = fails_to_lem c.args.way c.args.place c.goes.result c.if-way-eq0.false c.goes.ensures
+pub returns-in-None : goal.returns-in-None
+unfolding fails_to
+returns-in-None c = search rules
