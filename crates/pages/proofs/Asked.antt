@@ -16,9 +16,8 @@ use Rattle.pages.specs.declared.flow.Standing.{Standing}
 use Rattle.pages.specs.declared.flow.Standing.TheVariants.{Due, Out}
 use Rattle.pages.specs.declared.flow.Task.{Task}
 use Rattle.pages.specs.declared.flow.Flow.{Flow}
-use Rattle.pages.specs.declared.flow.Tried.TheVariants as tries
 use Rattle.pages.specs.Sound.{TaskOk, Agree}
-use Rattle.pages.specs.Events.{stands_as, out_task, handed_out, due_for, one_of, wanted_task, due_since, due_task, step_in, out_now, tried_task, over_in, cancelled_of}
+use Rattle.pages.specs.Events.{stands_as, out_task, handed_out, due_for, one_of, wanted_task, due_since, due_task, step_in, out_now, tried_task, tried_no_task, tried_not_out, tried_out, over_in, cancelled_of}
 use Rattle.pages.specs.Holds.{standing_of, job_of, jobs_of, Holds, HandedAs, WantedAs, DueAs, tried_in, TriedAs, OverAs, CancelledAs}
 use Rattle.pages.proofs.Codes.{agreed_task}
 use Rattle.pages.proofs.Held.{phase_is}
@@ -135,12 +134,12 @@ tried_is : (a i s k : ℕ) (u : Task) → tried_task s a k (Some u) ≡ tried_in
 unfolding find
 tried_is a i s k u = go (eqb s k) ∙ ap (λ (b : Bool). tried_in a (cond (b && eqb s k) (job_of i k u ∷ []) [])) (sym (eq-eqb i i refl))
   where
-    nested : (c d : Bool) → cond c (cond d tries.Out tries.NotOut) tries.NotOut ≡ cond (c && d) tries.Out tries.NotOut
+    nested : (c d : Bool) → cond c (cond d tried_out tried_not_out) tried_not_out ≡ cond (c && d) tried_out tried_not_out
     nested true d = refl
     nested false d = refl
 
-    go : (b : Bool) → cond b (cond (eqb a u.attempt) (cond (out_now u.standing) tries.Out tries.NotOut) tries.NotOut) tries.NoTask ≡ tried_in a (cond (true && b) (job_of i k u ∷ []) [])
-    go true = nested (eqb a u.attempt) (out_now u.standing) ∙ ap (λ (d : Bool). cond (eqb a u.attempt && d) tries.Out tries.NotOut) (out_is u.standing)
+    go : (b : Bool) → cond b (cond (eqb a u.attempt) (cond (out_now u.standing) tried_out tried_not_out) tried_not_out) tried_no_task ≡ tried_in a (cond (true && b) (job_of i k u ∷ []) [])
+    go true = nested (eqb a u.attempt) (out_now u.standing) ∙ ap (λ (d : Bool). cond (eqb a u.attempt && d) tried_out tried_not_out) (out_is u.standing)
     go false = refl
 
 pub tried_held : (s a : ℕ) (f : Flow) → TriedAs s a f (tried_task s a (step_in f.place.phase) f.task)

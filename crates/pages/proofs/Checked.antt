@@ -8,9 +8,10 @@ use Rattle.pages.specs.declared.flow.Standing.{Standing}
 use Rattle.pages.specs.declared.flow.Standing.TheVariants.{Due, Out}
 use Rattle.pages.specs.declared.flow.Task.{Task}
 use Rattle.pages.specs.declared.flow.Flow.{Flow}
-use Rattle.pages.specs.Page.{fill, damaged, fair, agree, phase_of, phase_in, as_task, task_as, task_in, flow_of, with_task, with_phase, decode_of}
+use Rattle.runs.specs.Steps.{fill}
+use Rattle.pages.specs.Page.{damaged, fair, agree, phase_of, phase_in, as_task, task_as, task_in, flow_of, with_task, with_phase, decode_of}
 use Rattle.pages.specs.Sound.{TaskOk, PhaseOk, Agree, Sound, DecodesSound}
-use Rattle.pages.proofs.Held.{fill_long, fill_take}
+use Rattle.runs.proofs.Filled.{fill_long, fill_take}
 
 phase_same : (p q : Phase) → PhaseOk p → ◌≡◌ {A = Result Phase Damaged} (Ok p) (Ok q) → PhaseOk q
 phase_same p q k e = let n : p ≡ q = cc in subst (λ (r : Phase). PhaseOk r) n k

@@ -8,7 +8,8 @@ use Rattle.pages.specs.declared.flow.Standing.{Standing}
 use Rattle.pages.specs.declared.flow.Standing.TheVariants.{Due, Out}
 use Rattle.pages.specs.declared.flow.Task.{Task}
 use Rattle.pages.specs.declared.flow.Flow.{Flow}
-use Rattle.pages.specs.Page.{fill, damaged, fair, agree, task_as, task_in, with_task, with_phase, decode_of, zeros, place_words, tag_of, since_of, task_words, encode_of}
+use Rattle.runs.specs.Steps.{fill}
+use Rattle.pages.specs.Page.{damaged, fair, agree, task_as, task_in, with_task, with_phase, decode_of, zeros, place_words, tag_of, since_of, task_words, encode_of}
 use Rattle.pages.specs.Sound.{TaskOk, PhaseOk, Agree, DecodesEncoded, EncodesPage, Small, PhaseFits, StandingFits, FitsTask, EncodesSmall}
 
 pub fair_ok : (t : Task) → TaskOk t → fair t ≡ true

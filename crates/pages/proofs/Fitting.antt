@@ -16,14 +16,14 @@ use Rattle.runs.specs.declared.step.Phase.TheVariants.{Busy, Tasked, Asleep, Lis
 use Rattle.runs.specs.declared.step.Place.{Place}
 use Rattle.runs.specs.declared.event.Task.{Task as Goal}
 use Rattle.runs.specs.Machine.{spent}
-use Rattle.runs.specs.Units.{statement_of, statement_at, deep_at}
-use Rattle.runs.specs.Steps.{Out as Ways, Lost, Went, gone_to, ended_as, waits_at, fails_to, with_value, worth_at, backs, with_all, does_w, busy, step_w, onward, moves_w}
+use Rattle.runs.specs.Units.{way_in, statement_of, statement_at, deep_at}
+use Rattle.runs.specs.Steps.{at_first, fill, Out as Ways, Lost, Went, gone_to, ended_as, waits_at, fails_to, with_value, worth_at, backs, with_all, does_w, busy, step_w, onward, moves_w}
 use Rattle.runs.specs.Events.{task_in, with_task as with_goal}
 use Rattle.pages.specs.declared.flow.Task.{Task}
 use Rattle.pages.specs.declared.flow.Flow.{Flow}
-use Rattle.pages.specs.Page.{fill, damaged, fair, zeros}
+use Rattle.pages.specs.Page.{damaged, fair, zeros}
 use Rattle.pages.specs.Sound.{Small, PhaseFits, TaskFits, FitsTask, Fits}
-use Rattle.pages.specs.Events.{task_from, settled, ran_on, first_vars, at_first, begun, then_runs, worked_on, failed_on, again, with_task, wrong_task, wrong_on, late_task, wakes_at, then_wakes, ticked_on, out_task, over_in}
+use Rattle.pages.specs.Events.{task_from, settled, ran_on, first_vars, begun, then_runs, worked_on, failed_on, again, with_task, wrong_task, wrong_on, late_task, wakes_at, then_wakes, ticked_on, out_task, over_in}
 use Rattle.pages.specs.Fitting.{Fitting}
 use Rattle.pages.proofs.Codes.{small_append, small_zeros}
 use Rattle.pages.proofs.Good.{backs_long}
@@ -150,9 +150,14 @@ one_fits n (Stop (x ∷ y ∷ st) e) h = tt
 -- statements ---------------------------------------------------------------------
 
 -- its words are of 64 bits, and its places are in the plan or next to its end
+-- where a failure goes
+abbrev WayFits : Option ℕ → Type 0
+WayFits None = Unit {0}
+WayFits (Some a) = a < top
+
 abbrev StFits : Statement → Type 0
 StFits (Set v next e) = (next < top) × (e ≤ 16388)
-StFits (Do v next way task) = (next < top) × (way < top) × (task ≤ 16388)
+StFits (Do v next way task) = (next < top) × WayFits way × (task ≤ 16388)
 StFits (Sleep next e) = (next < top) × (e ≤ 16388)
 StFits (Hear v w next name) = (next < top) × (name ≤ 16388)
 StFits (If other e) = (other < top) × (e ≤ 16388)
@@ -160,7 +165,7 @@ StFits (While next e) = (next < top) × (e ≤ 16388)
 StFits (Guard first) = first ≤ 16388
 StFits (Go next) = next < top
 StFits (Return e) = e ≤ 16388
-StFits (Fail way) = way < top
+StFits (Fail way) = WayFits way
 StFits End = Unit {0}
 
 abbrev MayFit : Option Statement → Type 0
@@ -171,11 +176,16 @@ or_else : (b : Bool) (x y : Option Statement) → MayFit x → MayFit y → MayF
 or_else true x y h k = h
 or_else false x y h k = k
 
+way_fits : (d : ℕ) → d < top → WayFits (way_in d)
+unfolding way_in
+way_fits zero h = tt
+way_fits (suc a) h = omega arith
+
 of_fits : (kind at b c d : ℕ) → at ≤ 16384 → b < top → c < top → d < top → MayFit (statement_of kind at b c d)
 of_fits kind at b c d l hb hc hd =
     let m : at + 4 ≤ 16388 = omega arith in
     let n : at + 3 ≤ 16388 = omega arith in
-    or_else (eqb kind 1) _ _ (hc, m) (or_else (eqb kind 2) _ _ (hc, hd, m) (or_else (eqb kind 3) _ _ (hc, m) (or_else (eqb kind 4) _ _ (hc, m) (or_else (eqb kind 5) _ _ (hb, m) (or_else (eqb kind 6) _ _ (hc, m) (or_else (eqb kind 7) _ _ (hb, n) (or_else (eqb kind 8) _ _ m (or_else (eqb kind 9) _ _ hb (or_else (eqb kind 10) _ _ m (or_else (eqb kind 11) _ _ hd (or_else (eqb kind 12) _ _ hc (or_else (eqb kind 13) _ _ tt tt))))))))))))
+    or_else (eqb kind 1) _ _ (hc, m) (or_else (eqb kind 2) _ _ (hc, way_fits d hd, m) (or_else (eqb kind 3) _ _ (hc, m) (or_else (eqb kind 4) _ _ (hc, m) (or_else (eqb kind 5) _ _ (hb, m) (or_else (eqb kind 6) _ _ (hc, m) (or_else (eqb kind 7) _ _ (hb, n) (or_else (eqb kind 8) _ _ m (or_else (eqb kind 9) _ _ hb (or_else (eqb kind 10) _ _ m (or_else (eqb kind 11) _ _ (way_fits d hd) (or_else (eqb kind 12) _ _ hc (or_else (eqb kind 13) _ _ tt tt))))))))))))
 
 at_fits : (ws : List ℕ) (a : ℕ) → Small ws → length ws ≤ 16384 → MayFit (statement_at ws a)
 unfolding statement_at
@@ -237,10 +247,10 @@ ended_fits q p vs h k = record { phase = h; here = k.here; steps = k.steps; into
 waits_fits : (q : Phase) (a : ℕ) (p : Place) (vs : List ℕ) → PhaseFits q → a < top → p.steps < 4611686018427387904 → Kept p vs [] → Kept (waits_at q a p) vs []
 waits_fits q a p vs h l n k = record { phase = h; here = l; steps = omega arith; into = k.into; vars = k.vars; wish = tt }
 
-fails_fits : (way : ℕ) (p : Place) (vs : List ℕ) → way < top → Kept p vs [] → Kept (fails_to way p) vs []
+fails_fits : (way : Option ℕ) (p : Place) (vs : List ℕ) → WayFits way → Kept p vs [] → Kept (fails_to way p) vs []
 unfolding fails_to
-fails_fits zero p vs h k = ended_fits Failed p vs tt k
-fails_fits (suc a) p vs h k = gone_fits a p vs vs (omega arith) k.vars k
+fails_fits None p vs h k = ended_fits Failed p vs tt k
+fails_fits (Some a) p vs h k = gone_fits a p vs vs (omega arith) k.vars k
 
 module _ (room : ℕ) (ws : List ℕ) (t : ℕ) (small : Small ws) (long : length ws ≤ 16384) (early : t ≤ 4611686018427387904) where
   expr_fits : (e : ℕ) (vs : List ℕ) → e ≤ 16500 → Small vs → RunFits 33000 (run_e room vs (drop e ws) e [])
@@ -324,7 +334,7 @@ kept_of f k = record { phase = k.phase; here = k.here; steps = k.steps; into = k
 -- where a task goes on, and where its failure goes
 abbrev GoalFits : Option Goal → Type 0
 GoalFits None = Unit {0}
-GoalFits (Some g) = (g.next < top) × (g.way < top)
+GoalFits (Some g) = (g.next < top) × WayFits g.way
 
 goal_fits : (s : Option Statement) → MayFit s → GoalFits (task_in s)
 goal_fits None h = tt
@@ -340,7 +350,7 @@ goal_fits (Some (Return e)) h = tt
 goal_fits (Some (Fail way)) h = tt
 goal_fits (Some End) h = tt
 
-by_goal : (g : Option Goal) (f : ℕ → ℕ → Ways) → GoalFits g → ((next way : ℕ) → next < top → way < top → OutFits (f next way)) → OutFits (with_goal g f)
+by_goal : (g : Option Goal) (f : ℕ → Option ℕ → Ways) → GoalFits g → ((next : ℕ) (way : Option ℕ) → next < top → WayFits way → OutFits (f next way)) → OutFits (with_goal g f)
 unfolding with_goal
 by_goal None f k h = tt
 by_goal (Some g) f k h = h g.next g.way k.0 k.1

@@ -58,10 +58,10 @@ unfolding with_all
 all_good Bad f h = tt
 all_good (Stop st e) f h = cond_good (leb (length st) 16) (f (backs st [])) (λ q. h (backs st []) (let l : length st ≤ 16 = leb-true (length st) 16 q in let m = backs_long st [] in omega arith))
 
-fails_good : (way : ℕ) (p : Place) (vs : List ℕ) → length vs ≡ 64 → p.into < 64 → GoodOut (Went (fails_to way p) vs [])
+fails_good : (way : Option ℕ) (p : Place) (vs : List ℕ) → length vs ≡ 64 → p.into < 64 → GoodOut (Went (fails_to way p) vs [])
 unfolding fails_to
-fails_good zero p vs l i = record { vars = l; into = i; phase = tt; wants = tt }
-fails_good (suc a) p vs l i = record { vars = l; into = i; phase = tt; wants = tt }
+fails_good None p vs l i = record { vars = l; into = i; phase = tt; wants = tt }
+fails_good (Some a) p vs l i = record { vars = l; into = i; phase = tt; wants = tt }
 
 does_good : (room : ℕ) (ws : List ℕ) (t : ℕ) (s : Option Statement) (p : Place) (vs : List ℕ) → length vs ≡ 64 → p.into < 64 → GoodOut (does_w room ws t s p vs)
 unfolding does_w

@@ -1,6 +1,5 @@
 -- A run of a flow is the house's. Assumes nothing.
-use Rattle.std.proofs.Common.{◌≡◌, ℕ, zero, suc, ◌+◌, ◌-◌, ◌≤◌, List, [], ◌∷◌, ◌++◌, length, get_or, take, sym, refl, ap, ◌∙◌, subst, inl, arith, length-append, length-take-le, take-take}
-use lib.Seq.{take-append_seam}
+use Rattle.std.proofs.Common.{◌≡◌, ℕ, zero, suc, ◌+◌, ◌-◌, ◌≤◌, List, [], ◌∷◌, ◌++◌, length, get_or, sym, refl, ap, ◌∙◌, subst, inl, arith, length-append, length-take-le}
 use Rattle.std.proofs.lemmas.Bool.{cond-true, cond-false, eq-eqb, ne_eqb}
 use Rattle.plans.specs.Plan.{Flow as Meant, Wish as Wished, Moved, Busy as busy_p, Tasked as tasked_p, still, moves}
 use Rattle.plans.specs.Eval.{look}
@@ -11,15 +10,15 @@ use Rattle.runs.specs.declared.step.Phase.TheVariants.{Busy, Tasked, Asleep, Lis
 use Rattle.runs.specs.declared.step.Place.{Place}
 use Rattle.runs.specs.Machine.{FlatFlow, Is}
 use Rattle.runs.specs.Decode.{code_in, flat_at}
-use Rattle.runs.specs.Steps.{Out as Ways, Lost, Went, moves_w}
+use Rattle.runs.specs.Steps.{at_first, fill, Out as Ways, Lost, Went, moves_w}
 use Rattle.runs.specs.Carried.{phase_in, flow_in, Meets}
 use Rattle.runs.proofs.Loops.{moves_on}
 use Rattle.runs.proofs.Stands.{begins_alike}
-use Rattle.pages.specs.Page.{fill, zeros}
+use Rattle.pages.specs.Page.{zeros}
 use Rattle.pages.specs.Sound.{TaskOk, Agree}
-use Rattle.pages.specs.Events.{wish_task, task_from, settled, ran_on, first_vars, at_first, begun, step_in}
+use Rattle.pages.specs.Events.{wish_task, task_from, settled, ran_on, first_vars, begun, step_in}
 use Rattle.pages.specs.Holds.{jobs_of, HeldBy, TasksOk, new_of, alone, BeginsAs}
-use Rattle.pages.proofs.Words.{drop_zeros}
+use Rattle.runs.proofs.Filled.{drop_zeros, fill_long, fill_take}
 use Rattle.pages.proofs.Turns.{vars_filled}
 use Rattle.pages.proofs.Good.{Wants, Good, GoodOut, moves_good}
 
@@ -39,15 +38,6 @@ step_is ws (Asleep u) = refl
 step_is ws (Listens v w n u) = refl
 step_is ws (Ended v) = refl
 step_is ws Failed = refl
-
--- arguments
-pub fill_long : (xs : List ℕ) → length (fill xs) ≡ 16
-unfolding fill
-fill_long xs = length-take-le 16 (xs ++ zeros 16) (omega (arith, length-append xs (zeros 16)))
-
-pub fill_take : (xs : List ℕ) → length xs ≤ 16 → take (length xs) (fill xs) ≡ xs
-unfolding fill
-fill_take xs h = take-take (length xs) 16 (xs ++ zeros 16) h ∙ take-append_seam xs (zeros 16)
 
 -- wishes
 wants_one : (p : Phase) (w : Wished) → Wants p (w ∷ []) → length w.args ≤ 16

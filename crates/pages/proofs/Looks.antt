@@ -1,16 +1,19 @@
 -- What is asked of a flow. Assumes nothing.
-use Rattle.std.proofs.Common.{◌≡◌, ℕ, ◌+◌, ◌<◌, ◌≤◌, true, false, List, length, get_or, drop, sym, ap, ◌∙◌, add-one, drop_of_length-le, drop-cons}
-use Rattle.std.proofs.lemmas.Bool.{cond-true, cond-false, eq-eqb, ne_eqb}
+use Rattle.std.proofs.Common.{◌≡◌, ℕ, Bool, true, false, cond, eqb, ◌||◌, List, [], ◌∷◌, refl, sym, ◌∙◌, ap₂}
+use Rattle.std.proofs.lemmas.Bool.{eq-eqb, ne_eqb}
+use Rattle.std.specs.List.{list_any}
+use Rattle.flows.proofs.Lists.{eqb_same}
 use Rattle.pages.specs.Events.{one_of}
 
-pub one_here : (k : ℕ) (xs : List ℕ) (i : ℕ) → i < length xs → get_or xs i 0 ≡ k → one_of k (drop i xs) ≡ true
-unfolding one_of
-one_here k xs i h e = ap (one_of k) (drop-cons xs i 0 h) ∙ cond-true _ _ _ (eq-eqb k (get_or xs i 0) (sym e))
+flips : (a b : ℕ) (c : Bool) → eqb a b ≡ c → eqb b a ≡ c
+flips a b true h = eq-eqb b a (sym (eqb_same a b h))
+flips a b false h = ne_eqb b a (λ e. let z : ◌≡◌ {A = Bool} true false = sym (eq-eqb a b (sym e)) ∙ h in cc)
 
-pub one_next : (k : ℕ) (xs : List ℕ) (i : ℕ) → i < length xs → (get_or xs i 0 ≡ k → ⊥) → one_of k (drop i xs) ≡ one_of k (drop (i + 1) xs)
+pub one_is : (k : ℕ) (xs : List ℕ) → list_any (λ y. eqb y k) xs ≡ one_of k xs
 unfolding one_of
-one_next k xs i h e = ap (one_of k) (drop-cons xs i 0 h) ∙ cond-false _ _ _ (ne_eqb k (get_or xs i 0) (λ q. e (sym q))) ∙ ap (λ (n : ℕ). one_of k (drop n xs)) (sym (add-one i))
-
-pub one_none : (k : ℕ) (xs : List ℕ) (i : ℕ) → length xs ≤ i → one_of k (drop i xs) ≡ false
-unfolding one_of
-one_none k xs i h = ap (one_of k) (drop_of_length-le xs h)
+one_is k [] = refl
+one_is k (x ∷ xs) = ap₂ (λ (b c : Bool). b || c) (flips k x (eqb k x) refl) (one_is k xs) ∙ either (eqb k x) (one_of k xs)
+  where
+    either : (b c : Bool) → (b || c) ≡ cond b true c
+    either true c = refl
+    either false c = refl

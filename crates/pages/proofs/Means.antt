@@ -1,5 +1,5 @@
 -- Each event on a flow with its task is the house's. Assumes nothing.
-use Rattle.std.proofs.Common.{◌≡◌, ℕ, zero, suc, ◌<◌, Bool, true, false, cond, not, ◌&&◌, eqb, ltb, List, [], ◌∷◌, length, set, Some, None, Ok, Err, Option, Result, sym, refl, ap, ◌∙◌, subst, ap₂, arith, length-set}
+use Rattle.std.proofs.Common.{◌≡◌, ℕ, ◌<◌, Bool, true, false, cond, not, ◌&&◌, eqb, ltb, List, [], ◌∷◌, length, set, Some, None, Ok, Err, Option, Result, sym, refl, ap, ◌∙◌, subst, ap₂, arith, length-set}
 use Rattle.std.proofs.lemmas.Bool.{cond-true, and_from, eq-eqb, lt-ltb}
 use Rattle.plans.specs.declared.eval.Damaged.{Damaged}
 use Rattle.plans.specs.Plan.{Flow as Meant, at, goes_on, broken}
@@ -87,7 +87,7 @@ worked_held room ws t v f k y o e h ok =
     kept : TaskedOk (moved_one t x' (alone x))
     kept = λ z n a b. subst (λ (q : One). TasksOk (works_one t v q.flow (with_jobs [] q)).task) eqn ok
 
-    F : ℕ → ℕ → Ways
+    F : ℕ → Option ℕ → Ways
     F = λ next way. Went (gone_to next f.place) vs []
 
     go : (m : Option Found) → task_in (statement_at ws f.place.here) ≡ m → HeldBy room ws (then_runs room ws t (found m F)) y (moved_one t x' (alone x))
@@ -98,16 +98,16 @@ worked_held room ws t v f k y o e h ok =
 
 -- a failure ----------------------------------------------------------------------
 
-fails_into : (way : ℕ) (p : Place) (vs : List ℕ) → length vs ≡ 64 → p.into < 64 → Good (fails_to way p) vs []
+fails_into : (way : Option ℕ) (p : Place) (vs : List ℕ) → length vs ≡ 64 → p.into < 64 → Good (fails_to way p) vs []
 unfolding fails_to
-fails_into zero p vs l i = record { vars = l; into = i; phase = tt; wants = tt }
-fails_into (suc a) p vs l i = record { vars = l; into = i; phase = tt; wants = tt }
+fails_into None p vs l i = record { vars = l; into = i; phase = tt; wants = tt }
+fails_into (Some a) p vs l i = record { vars = l; into = i; phase = tt; wants = tt }
 
 failed_held : (room : ℕ) (ws : List ℕ) (t k : ℕ) (f : Flow) (y : FlatFlow) (x : Meant) → f.place.phase ≡ Tasked k → Is (code_in room ws) (flow_in ws f.place f.vars y) x → y.box ≡ [] → Sound f → TaskedOk (moved_one t (broken x.frames x) (alone x)) → HeldBy room ws (failed_on room ws t f) y (moved_one t (broken x.frames x) (alone x))
 unfolding failed_on then_runs found
 failed_held room ws t k f y x e is empty s ok = go (task_in (statement_at ws f.place.here)) refl
   where
-    F : List ℕ → ℕ → ℕ → Ways
+    F : List ℕ → ℕ → Option ℕ → Ways
     F vs = λ next way. Went (fails_to way f.place) vs []
 
     go : (m : Option Found) → task_in (statement_at ws f.place.here) ≡ m → HeldBy room ws (then_runs room ws t (found m (F f.vars))) y (moved_one t (broken x.frames x) (alone x))

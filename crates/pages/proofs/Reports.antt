@@ -9,9 +9,8 @@ use Rattle.runs.specs.declared.step.Phase.TheVariants.{Tasked}
 use Rattle.runs.specs.Machine.{FlatFlow}
 use Rattle.pages.specs.declared.flow.Task.{Task}
 use Rattle.pages.specs.declared.flow.Flow.{Flow}
-use Rattle.pages.specs.declared.flow.Tried.TheVariants as tries
 use Rattle.pages.specs.Sound.{TaskOk, Agree}
-use Rattle.pages.specs.Events.{step_in, out_now, tried_task}
+use Rattle.pages.specs.Events.{step_in, out_now, tried_task, tried_no_task, tried_not_out, tried_out}
 use Rattle.pages.specs.Holds.{job_of, jobs_of, Holds, TasksOk}
 use Rattle.pages.specs.Reports.{tried_of, TryOut, TryStays, Tries}
 use Rattle.pages.proofs.Codes.{agreed_task}
@@ -19,19 +18,19 @@ use Rattle.pages.proofs.Means.{tasked_of, keep_none}
 use Rattle.pages.proofs.Asked.{out_is}
 
 -- the tests that an answer tells
-out_tells : (b c d : Bool) → cond b (cond c (cond d tries.Out tries.NotOut) tries.NotOut) tries.NoTask ≡ tries.Out → (b ≡ true) × (c ≡ true) × (d ≡ true)
+out_tells : (b c d : Bool) → cond b (cond c (cond d tried_out tried_not_out) tried_not_out) tried_no_task ≡ tried_out → (b ≡ true) × (c ≡ true) × (d ≡ true)
 out_tells true true true e = (refl, refl, refl)
 out_tells true true false e = let z : ◌≡◌ {A = ℕ} 0 1 = cc in absurd (omega arith)
 out_tells true false d e = let z : ◌≡◌ {A = ℕ} 0 1 = cc in absurd (omega arith)
 out_tells false c d e = let z : ◌≡◌ {A = ℕ} 0 1 = cc in absurd (omega arith)
 
-not_tells : (b c d : Bool) → cond b (cond c (cond d tries.Out tries.NotOut) tries.NotOut) tries.NoTask ≡ tries.NotOut → (b ≡ true) × ((c && d) ≡ false)
+not_tells : (b c d : Bool) → cond b (cond c (cond d tried_out tried_not_out) tried_not_out) tried_no_task ≡ tried_not_out → (b ≡ true) × ((c && d) ≡ false)
 not_tells true true true e = let z : ◌≡◌ {A = ℕ} 0 1 = cc in absurd (omega arith)
 not_tells true true false e = (refl, refl)
 not_tells true false d e = (refl, refl)
 not_tells false c d e = let z : ◌≡◌ {A = ℕ} 0 1 = cc in absurd (omega arith)
 
-no_tells : (b c d : Bool) → cond b (cond c (cond d tries.Out tries.NotOut) tries.NotOut) tries.NoTask ≡ tries.NoTask → b ≡ false
+no_tells : (b c d : Bool) → cond b (cond c (cond d tried_out tried_not_out) tried_not_out) tried_no_task ≡ tried_no_task → b ≡ false
 no_tells true true true e = let z : ◌≡◌ {A = ℕ} 0 1 = cc in absurd (omega arith)
 no_tells true true false e = let z : ◌≡◌ {A = ℕ} 0 1 = cc in absurd (omega arith)
 no_tells true false d e = let z : ◌≡◌ {A = ℕ} 0 1 = cc in absurd (omega arith)
@@ -62,7 +61,7 @@ module _ (room : ℕ) (ws : List ℕ) (f : Flow) (y : FlatFlow) (o : One) (s a :
       cond-true _ _ _ b
       ∙ ap (λ (l : List Job). cond well (works_one t (v % top) o.flow (with_jobs l o)) (wrong_one t (job u) o)) (ap (keep (λ (w : Job). not (is_task y.id (step_in f.place.phase) w))) (jobs (Some u) e) ∙ keep_none (job u))
 
-  out_at : (m : Option Task) → f.task ≡ m → tried_of s a f ≡ tries.Out → TryOut f y o s a
+  out_at : (m : Option Task) → f.task ≡ m → tried_of s a f ≡ tried_out → TryOut f y o s a
   unfolding k longer_one job
   out_at None e q = let z : ◌≡◌ {A = ℕ} 0 1 = cc (ap (tried_task s a (step_in f.place.phase)) e, q) in absurd (omega arith)
   out_at (Some u) e q =
@@ -79,7 +78,7 @@ module _ (room : ℕ) (ws : List ℕ) (f : Flow) (y : FlatFlow) (o : One) (s a :
         longer = λ until. ap (λ (l : List Job). longer_one a until l o) (found u e r.0) ∙ cond-true _ _ _ b;
       }
 
-  not_at : (m : Option Task) → f.task ≡ m → tried_of s a f ≡ tries.NotOut → TryStays y o s a
+  not_at : (m : Option Task) → f.task ≡ m → tried_of s a f ≡ tried_not_out → TryStays y o s a
   unfolding k longer_one reports_one
   not_at None e q = let z : ◌≡◌ {A = ℕ} 0 1 = cc (ap (tried_task s a (step_in f.place.phase)) e, q) in absurd (omega arith)
   not_at (Some u) e q =
@@ -90,7 +89,7 @@ module _ (room : ℕ) (ws : List ℕ) (f : Flow) (y : FlatFlow) (o : One) (s a :
         longer = λ until. ap (λ (l : List Job). longer_one a until l o) (found u e r.0) ∙ cond-false _ _ _ b;
       }
 
-  no_at : (m : Option Task) → f.task ≡ m → tried_of s a f ≡ tries.NoTask → find (is_task y.id s) o.task ≡ []
+  no_at : (m : Option Task) → f.task ≡ m → tried_of s a f ≡ tried_no_task → find (is_task y.id s) o.task ≡ []
   unfolding k find
   no_at None e q = ap (find (is_task y.id s)) (jobs None e)
   no_at (Some u) e q =

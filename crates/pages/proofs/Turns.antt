@@ -13,7 +13,7 @@ use Rattle.pages.specs.declared.flow.Task.{Task}
 use Rattle.pages.specs.declared.flow.Flow.{Flow}
 use Rattle.pages.specs.Page.{damaged, fair, zeros}
 use Rattle.pages.specs.Events.{ran_on, first_vars, then_runs, worked_on, failed_on, again, with_task, wrong_task, wrong_on, late_task, wakes_at, wakes_on, then_wakes, ticked_on}
-use Rattle.pages.proofs.Words.{take_zeros, drop_zeros}
+use Rattle.runs.proofs.Filled.{take_zeros, drop_zeros}
 
 pub vars_filled : (xs : List ℕ) → length xs ≤ 64 → xs ++ drop (length xs) (zeros 64) ≡ first_vars xs
 unfolding first_vars

@@ -6,16 +6,16 @@ use Rattle.flows.specs.House.{doubled, less1}
 use Rattle.runs.specs.declared.step.Phase.{Phase}
 use Rattle.runs.specs.declared.step.Phase.TheVariants.{Busy, Tasked, Asleep, Listens, Ended, Failed}
 use Rattle.runs.specs.declared.step.Place.{Place}
-use Rattle.runs.specs.Steps.{Lost, Went, Out as Ways, gone_to, ended_as, fails_to, moves_w}
+use Rattle.runs.specs.Steps.{Lost, Went, Out as Ways, fill, at_first, gone_to, ended_as, fails_to, moves_w}
 use Rattle.runs.specs.Units.{statement_at}
 use Rattle.runs.specs.Events.{by_task}
 use Rattle.pages.specs.declared.flow.Standing.{Standing}
 use Rattle.pages.specs.declared.flow.Standing.TheVariants.{Due, Out}
 use Rattle.pages.specs.declared.flow.Task.{Task}
 use Rattle.pages.specs.declared.flow.Flow.{Flow}
-use Rattle.pages.specs.declared.flow.Tried.{Tried}
-use Rattle.pages.specs.declared.flow.Tried.TheVariants as tries
-use Rattle.pages.specs.Page.{damaged, fill, fair, zeros}
+use Rattle.pages.specs.declared.flow.Untried.{Untried}
+use Rattle.pages.specs.declared.flow.Untried.TheVariants as untried
+use Rattle.pages.specs.Page.{damaged, fair, zeros}
 
 -- a flow's run -------------------------------------------------------------------
 
@@ -40,9 +40,6 @@ ran_on room ws t p vs = settled t (moves_w room ws t 1000 p vs)
 -- 64 variables: those that are given, and zeros
 unfoldable pub first_vars : List ℕ → List ℕ
 first_vars xs = take 64 (xs ++ zeros 64)
-
-abbrev pub at_first : Place
-at_first = record { phase = Busy; here = 0; steps = 0; into = 0 }
 
 abbrev pub begun : (room : ℕ) → (plan given : List ℕ) → (time : ℕ) → Result Flow Damaged
 begun room ws xs t = ran_on room ws t at_first (first_vars xs)
@@ -162,9 +159,22 @@ abbrev pub out_now : Standing → Bool
 out_now (Due a) = false
 out_now (Out u) = true
 
+abbrev pub Tried : Type 0
+Tried = Result (Unit {0}) Untried
+
+-- no such task; another try, or one that is not out; the try that is out
+abbrev pub tried_no_task : Tried
+tried_no_task = Err untried.NoTask
+
+abbrev pub tried_not_out : Tried
+tried_not_out = Err untried.NotOut
+
+abbrev pub tried_out : Tried
+tried_out = Ok tt
+
 abbrev pub tried_task : (step attempt at : ℕ) → Option Task → Tried
-tried_task s a k None = tries.NoTask
-tried_task s a k (Some u) = cond (s == k) (cond (a == u.attempt) (cond (out_now u.standing) tries.Out tries.NotOut) tries.NotOut) tries.NoTask
+tried_task s a k None = tried_no_task
+tried_task s a k (Some u) = cond (s == k) (cond (a == u.attempt) (cond (out_now u.standing) tried_out tried_not_out) tried_not_out) tried_no_task
 
 abbrev pub over_in : Phase → Bool
 over_in Busy = false

@@ -15,10 +15,8 @@ use Rattle.pages.specs.declared.flow.Standing.{Standing}
 use Rattle.pages.specs.declared.flow.Standing.TheVariants.{Due, Out}
 use Rattle.pages.specs.declared.flow.Task.{Task}
 use Rattle.pages.specs.declared.flow.Flow.{Flow}
-use Rattle.pages.specs.declared.flow.Tried.{Tried}
-use Rattle.pages.specs.declared.flow.Tried.TheVariants as tries
 use Rattle.pages.specs.Sound.{Sound}
-use Rattle.pages.specs.Events.{step_in, ticked_on}
+use Rattle.pages.specs.Events.{step_in, ticked_on, Tried, tried_no_task, tried_not_out, tried_out}
 
 abbrev pub standing_of : Standing → Stands
 standing_of (Due a) = due_job a
@@ -102,8 +100,8 @@ abbrev pub DueAs : Flow → ℕ → Type 0
 DueAs f r = (room : ℕ) (ws : List ℕ) (u : Job) (y : FlatFlow) (o : One) → o.task ≡ u ∷ [] → Holds room ws f y o → r ≡ due_at u.standing
 
 abbrev pub tried_in : (attempt : ℕ) → List Job → Tried
-tried_in a [] = tries.NoTask
-tried_in a (u ∷ us) = cond (the_same a u) tries.Out tries.NotOut
+tried_in a [] = tried_no_task
+tried_in a (u ∷ us) = cond (the_same a u) tried_out tried_not_out
 
 abbrev pub TriedAs : (step attempt : ℕ) → Flow → Tried → Type 0
 TriedAs s a f r = (room : ℕ) (ws : List ℕ) (y : FlatFlow) (o : One) → Holds room ws f y o → r ≡ tried_in a (find (is_task y.id s) o.task)

@@ -3,6 +3,7 @@ use Rattle.std.specs.Prelude.{ℕ, Bool, true, false, cond, ◌&&◌, List, [], 
 use Rattle.plans.specs.declared.eval.Damaged.{Damaged}
 use Rattle.runs.specs.declared.step.Phase.{Phase}
 use Rattle.runs.specs.declared.step.Phase.TheVariants.{Busy, Tasked, Asleep, Listens, Ended, Failed}
+use Rattle.runs.specs.Steps.{fill}
 use Rattle.pages.specs.declared.flow.Standing.{Standing}
 use Rattle.pages.specs.declared.flow.Standing.TheVariants.{Due, Out}
 use Rattle.pages.specs.declared.flow.Task.{Task}
@@ -11,10 +12,6 @@ use Rattle.pages.specs.Layout.{phase_at, here_at, steps_at, into_at, standing_at
 
 abbrev pub damaged : {A : Type 0} → Result A Damaged
 damaged = Err (record {})
-
--- 16 arguments: those that there are, and zeros behind them
-unfoldable pub fill : List ℕ → List ℕ
-fill xs = take 16 (xs ++ replicate 16 0)
 
 -- what is tested of a task
 abbrev pub fair : Task → Bool

@@ -7,9 +7,7 @@ use Rattle.flows.specs.Summed.{stands_one, longer_one, reports_one}
 use Rattle.runs.specs.declared.step.Phase.TheVariants.{Tasked}
 use Rattle.runs.specs.Machine.{FlatFlow}
 use Rattle.pages.specs.declared.flow.Flow.{Flow}
-use Rattle.pages.specs.declared.flow.Tried.{Tried}
-use Rattle.pages.specs.declared.flow.Tried.TheVariants as tries
-use Rattle.pages.specs.Events.{step_in, tried_task}
+use Rattle.pages.specs.Events.{step_in, tried_task, Tried, tried_no_task, tried_not_out, tried_out}
 use Rattle.pages.specs.Holds.{Holds, TasksOk}
 
 abbrev pub tried_of : (step attempt : ℕ) → Flow → Tried
@@ -29,9 +27,9 @@ pub record TryStays (y : FlatFlow) (o : One) (s a : ℕ) : Type 0 where
   pub longer : (until : ℕ) → longer_one a until (find (is_task y.id s) o.task) o ≡ o
 
 pub record Tries : Type 0 where
-  pub out : (room : ℕ) (ws : List ℕ) (f : Flow) (y : FlatFlow) (o : One) (s a : ℕ) → Holds room ws f y o → tried_of s a f ≡ tries.Out → TryOut f y o s a
-  pub not_out : (room : ℕ) (ws : List ℕ) (f : Flow) (y : FlatFlow) (o : One) (s a : ℕ) → Holds room ws f y o → tried_of s a f ≡ tries.NotOut → TryStays y o s a
-  pub no_task : (room : ℕ) (ws : List ℕ) (f : Flow) (y : FlatFlow) (o : One) (s a : ℕ) → Holds room ws f y o → tried_of s a f ≡ tries.NoTask → find (is_task y.id s) o.task ≡ []
+  pub out : (room : ℕ) (ws : List ℕ) (f : Flow) (y : FlatFlow) (o : One) (s a : ℕ) → Holds room ws f y o → tried_of s a f ≡ tried_out → TryOut f y o s a
+  pub not_out : (room : ℕ) (ws : List ℕ) (f : Flow) (y : FlatFlow) (o : One) (s a : ℕ) → Holds room ws f y o → tried_of s a f ≡ tried_not_out → TryStays y o s a
+  pub no_task : (room : ℕ) (ws : List ℕ) (f : Flow) (y : FlatFlow) (o : One) (s a : ℕ) → Holds room ws f y o → tried_of s a f ≡ tried_no_task → find (is_task y.id s) o.task ≡ []
   -- a flow has no task of another
   pub others : (room : ℕ) (ws : List ℕ) (f : Flow) (y : FlatFlow) (o : One) (i s : ℕ) → Holds room ws f y o → (i == y.id) ≡ false → find (is_task i s) o.task ≡ []
   -- its task keeps the bounds that plans keep

@@ -6,7 +6,8 @@ use Rattle.pages.specs.declared.flow.Standing.{Standing}
 use Rattle.pages.specs.declared.flow.Standing.TheVariants.{Due, Out}
 use Rattle.pages.specs.declared.flow.Task.{Task}
 use Rattle.pages.specs.declared.flow.Flow.{Flow}
-use Rattle.pages.specs.Page.{fill, decode_of, encode_of}
+use Rattle.runs.specs.Steps.{fill}
+use Rattle.pages.specs.Page.{decode_of, encode_of}
 
 pub record TaskOk (t : Task) : Type 0 where
   pub args : t.args ≡ fill (take t.count t.args)

@@ -6,26 +6,20 @@ ghost use Rattle.pages.specs.Holds.{BeginsAs, WorksAs, WrongAs, TicksAs};
 
 use crate::flow::{Flow, Standing, Task};
 use crate::look::is_late;
-use crate::page::{first_args, is_fair};
+use crate::page::is_fair;
 use plans::eval::Damaged;
 use runs::event::{heard, task_done, task_failed, woken};
 use runs::flow::run;
-use runs::step::{Phase, Place, Wish};
-
-// A task has at most 16 arguments.
-fn at_most_16(count: usize) -> usize
-    ensures { result ≡ (if nat_lt count 16 then count else 16) }
-{
-    if count < 16 { count } else { 16 }
-}
+use runs::step::{Phase, Place, Wish, first_args};
+use runs::time::Time;
 
 // What is wished for is a task that is due at once.
-fn task_of(wish: Option<Wish>, time: u64) -> Option<Task>
+fn task_of(wish: Option<Wish>, time: Time) -> Option<Task>
     ensures { result ≡ task_from time (wishes wish) }
 {
     match wish {
         Some(wish) => {
-            let count = at_most_16(wish.count);
+            let count = wish.count.min(16);
             let args = first_args(&wish.args, count);
             Some(Task {
                 kind: wish.kind,
@@ -34,7 +28,7 @@ fn task_of(wish: Option<Wish>, time: u64) -> Option<Task>
                 attempt: 1,
                 tries: wish.tries,
                 pause: wish.pause,
-                standing: Standing::Due { at: time },
+                standing: Standing::Due { at: time.ms() },
             })
         }
         None => None,
@@ -46,11 +40,9 @@ fn goes_on(
     plan: &[u64],
     place: Place,
     mut vars: [u64; 64],
-    time: u64,
+    time: Time,
     stack: &mut [u64],
 ) -> Result<Flow, Damaged>
-    requires clock { time ≤ 4611686018427387904 }
-    requires small { length plan.now ≤ 16384 }
     ensures { result ≡ ran_on (length stack.old) plan.now time place vars }
 {
     let ran = run(plan, place, time, &mut vars, stack)?;
@@ -72,20 +64,12 @@ fn first_vars(given: &[u64]) -> [u64; 64]
 }
 
 // A new flow of a plan, after its first run.
-pub fn begin(plan: &[u64], given: &[u64], time: u64, stack: &mut [u64]) -> Result<Flow, Damaged>
-    requires clock { time ≤ 4611686018427387904 }
-    requires small { length plan.now ≤ 16384 }
-    requires few { length given.now ≤ 64 }
+pub fn begin(plan: &[u64], given: &[u64], time: Time, stack: &mut [u64]) -> Result<Flow, Damaged>
+    requires { length given.now ≤ 64 }
     ensures flat { result ≡ begun (length stack.old) plan.now given.now time }
     ensures meant { BeginsAs (length stack.old) plan.now given.now time result }
 {
-    let place = Place {
-        phase: Phase::Busy,
-        here: 0,
-        steps: 0,
-        into: 0,
-    };
-    goes_on(plan, place, first_vars(given), time, stack)
+    goes_on(plan, Place::start(), first_vars(given), time, stack)
 }
 
 // Its task has this result.
@@ -93,11 +77,9 @@ pub fn worked(
     plan: &[u64],
     flow: Flow,
     value: u64,
-    time: u64,
+    time: Time,
     stack: &mut [u64],
 ) -> Result<Flow, Damaged>
-    requires clock { time ≤ 4611686018427387904 }
-    requires small { length plan.now ≤ 16384 }
     ensures flat { result ≡ worked_on (length stack.old) plan.now time value flow }
     ensures meant { WorksAs (length stack.old) plan.now time value flow result }
 {
@@ -110,14 +92,15 @@ pub fn worked(
 }
 
 // The next try of a task, due after a pause that doubles with each.
-fn again(mut task: Task, time: u64) -> Task
-    requires clock { time ≤ 4611686018427387904 }
-    requires low { (1 ≤ task.attempt) × (task.attempt ≤ 32) × (task.pause ≤ 86400000) }
+fn again(mut task: Task, time: Time) -> Task
+    requires { (1 ≤ task.attempt) × (task.attempt ≤ 32) × (task.pause ≤ 86400000) }
     ensures { result ≡ next_try time task }
 {
     let pause = task.pause << (task.attempt - 1);
     task.attempt += 1;
-    task.standing = Standing::Due { at: time + pause };
+    task.standing = Standing::Due {
+        at: time.ms() + pause,
+    };
     task
 }
 
@@ -125,11 +108,9 @@ fn again(mut task: Task, time: u64) -> Task
 pub fn went_wrong(
     plan: &[u64],
     mut flow: Flow,
-    time: u64,
+    time: Time,
     stack: &mut [u64],
 ) -> Result<Flow, Damaged>
-    requires clock { time ≤ 4611686018427387904 }
-    requires small { length plan.now ≤ 16384 }
     ensures flat { result ≡ wrong_on (length stack.old) plan.now time flow }
     ensures meant { WrongAs (length stack.old) plan.now time flow result }
 {
@@ -148,16 +129,15 @@ pub fn went_wrong(
 }
 
 // Who is busy goes on, and who has waited long enough.
-fn wakes(plan: &[u64], flow: Flow, time: u64, stack: &mut [u64]) -> Result<Flow, Damaged>
-    requires clock { time ≤ 4611686018427387904 }
-    requires small { length plan.now ≤ 16384 }
+fn wakes(plan: &[u64], flow: Flow, time: Time, stack: &mut [u64]) -> Result<Flow, Damaged>
     ensures { result ≡ wakes_on (length stack.old) plan.now time flow }
 {
+    let now = time.ms();
     match flow.place.phase {
         Phase::Busy => goes_on(plan, flow.place, flow.vars, time, stack),
         Phase::Tasked { .. } => Ok(flow),
         Phase::Asleep { until } => {
-            if until > time {
+            if until > now {
                 return Ok(flow);
             }
             goes_on(plan, woken(flow.place), flow.vars, time, stack)
@@ -168,14 +148,14 @@ fn wakes(plan: &[u64], flow: Flow, time: u64, stack: &mut [u64]) -> Result<Flow,
             until,
             ..
         } => {
-            if until > time {
+            if until > now {
                 return Ok(flow);
             }
             if var >= 64 || came >= 64 {
                 return Err(Damaged);
             }
             let mut vars = flow.vars;
-            let place = heard(flow.place, var, came, 0, 0, &mut vars);
+            let place = heard(flow.place, var, came, None, &mut vars);
             goes_on(plan, place, vars, time, stack)
         }
         Phase::Ended { .. } => Ok(flow),
@@ -184,13 +164,11 @@ fn wakes(plan: &[u64], flow: Flow, time: u64, stack: &mut [u64]) -> Result<Flow,
 }
 
 // The time has come to `time`: a try that is out for too long goes wrong; then the flow wakes.
-pub fn ticked(plan: &[u64], flow: Flow, time: u64, stack: &mut [u64]) -> Result<Flow, Damaged>
-    requires clock { time ≤ 4611686018427387904 }
-    requires small { length plan.now ≤ 16384 }
+pub fn ticked(plan: &[u64], flow: Flow, time: Time, stack: &mut [u64]) -> Result<Flow, Damaged>
     ensures flat { result ≡ ticked_on (length stack.old) plan.now time flow }
     ensures meant { TicksAs (length stack.old) plan.now time flow result }
 {
-    if !is_late(&flow, time) {
+    if !is_late(&flow, time.ms()) {
         return wakes(plan, flow, time, stack);
     }
     let flow = went_wrong(plan, flow, time, stack)?;

@@ -2,7 +2,7 @@
 use runs::step::Place;
 
 // A try of a task is due, or with a worker.
-#[derive(Clone, Copy)]
+#[derive(Clone, Copy, Debug, PartialEq, Eq)]
 pub enum Standing {
     Due { at: u64 },
     Out { until: u64 },
@@ -30,10 +30,11 @@ pub struct Flow {
     pub task: Option<Task>,
 }
 
-// What a report, or a wish for more time, finds: no such task, another try or one that is not out, or the try that is out.
-#[derive(Clone, Copy)]
-pub enum Tried {
+// Why a report, or a wish for more time, is of no try that is out.
+#[derive(Clone, Copy, Debug, PartialEq, Eq)]
+pub enum Untried {
+    // there is no such task
     NoTask,
+    // it is of another try, or of one that is not out
     NotOut,
-    Out,
 }

@@ -3,7 +3,7 @@ ghost use Rattle.std.specs.Prelude.{◌≡◌};
 ghost use Rattle.pages.specs.Events.{late_task, stirs_at, stirring, handed_out, one_of, wanted_task, due_task, step_in, tried_task, over_in, cancelled_of};
 ghost use Rattle.pages.specs.Holds.{StaysAs, HandedAs, WantedAs, DueAs, TriedAs, OverAs, CancelledAs};
 
-use crate::flow::{Flow, Standing, Tried};
+use crate::flow::{Flow, Standing, Task, Untried};
 use runs::step::Phase;
 
 // Is its task out for too long?
@@ -11,11 +11,13 @@ pub fn is_late(flow: &Flow, time: u64) -> bool
     ensures { result ≡ late_task time flow.now.task }
 {
     match flow.task {
-        Some(task) => match task.standing {
-            Standing::Due { .. } => false,
-            Standing::Out { until } => until < time,
-        },
-        None => false,
+        Some(
+            Task {
+                standing: Standing::Out { until },
+                ..
+            },
+        ) => until < time,
+        _ => false,
     }
 }
 
@@ -24,11 +26,8 @@ fn wakes_at(phase: Phase, time: u64) -> bool
 {
     match phase {
         Phase::Busy => true,
-        Phase::Tasked { .. } => false,
-        Phase::Asleep { until } => until <= time,
-        Phase::Listens { until, .. } => until <= time,
-        Phase::Ended { .. } => false,
-        Phase::Failed => false,
+        Phase::Asleep { until } | Phase::Listens { until, .. } => until <= time,
+        Phase::Tasked { .. } | Phase::Ended { .. } | Phase::Failed => false,
     }
 }
 
@@ -55,12 +54,7 @@ pub fn handed(mut flow: Flow, until: u64) -> Flow
 fn is_one_of(kind: u64, kinds: &[u64]) -> bool
     ensures { result ≡ one_of kind kinds.now }
 {
-    for other in kinds {
-        if *other == kind {
-            return true;
-        }
-    }
-    false
+    kinds.contains(&kind)
 }
 
 // Is its task due, and of one of these kinds?
@@ -77,7 +71,7 @@ pub fn is_wanted(flow: &Flow, time: u64, kinds: &[u64]) -> bool
     }
 }
 
-// When its task is due, or 0.
+// When its task is due; 0 where it is not, as in the meaning. It is asked of a task that is due.
 pub fn due_at(flow: &Flow) -> u64
     ensures flat { result ≡ due_task flow.now.task }
     ensures meant { DueAs flow.now result }
@@ -91,37 +85,33 @@ pub fn due_at(flow: &Flow) -> u64
     }
 }
 
-// The step that a flow waits for.
-fn step_of(phase: Phase) -> u64
+// The step that a flow waits for; 0 for one that waits for none, as in the meaning.
+pub fn step_of(phase: Phase) -> u64
     ensures { result ≡ step_in phase }
 {
     match phase {
-        Phase::Busy => 0,
         Phase::Tasked { step } => step,
-        Phase::Asleep { .. } => 0,
-        Phase::Listens { .. } => 0,
-        Phase::Ended { .. } => 0,
-        Phase::Failed => 0,
+        _ => 0,
     }
 }
 
 // Is this try of this step with a worker?
-pub fn tried(flow: &Flow, step: u64, attempt: u64) -> Tried
+pub fn tried(flow: &Flow, step: u64, attempt: u64) -> Result<(), Untried>
     ensures flat { result ≡ tried_task step attempt (step_in flow.now.place.phase) flow.now.task }
     ensures meant { TriedAs step attempt flow.now result }
 {
     let Some(task) = flow.task else {
-        return Tried::NoTask;
+        return Err(Untried::NoTask);
     };
     if step != step_of(flow.place.phase) {
-        return Tried::NoTask;
+        return Err(Untried::NoTask);
     }
     if attempt != task.attempt {
-        return Tried::NotOut;
+        return Err(Untried::NotOut);
     }
     match task.standing {
-        Standing::Due { .. } => Tried::NotOut,
-        Standing::Out { .. } => Tried::Out,
+        Standing::Due { .. } => Err(Untried::NotOut),
+        Standing::Out { .. } => Ok(()),
     }
 }
 
@@ -130,14 +120,7 @@ pub fn is_over(phase: Phase) -> bool
     ensures flat { result ≡ over_in phase }
     ensures meant { OverAs phase result }
 {
-    match phase {
-        Phase::Busy => false,
-        Phase::Tasked { .. } => false,
-        Phase::Asleep { .. } => false,
-        Phase::Listens { .. } => false,
-        Phase::Ended { .. } => true,
-        Phase::Failed => true,
-    }
+    matches!(phase, Phase::Ended { .. } | Phase::Failed)
 }
 
 // If it is not over, it has failed, and has no task.

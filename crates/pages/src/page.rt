@@ -1,21 +1,11 @@
 // A flow with its task as the words of a page.
 ghost use Rattle.std.specs.Prelude.{◌≡◌, ◌≤◌, length, take};
-ghost use Rattle.pages.specs.Page.{fill, fair, agree, phase_of, task_as, task_in, decode_of, place_words, tag_of, since_of, task_words, encode_of};
+ghost use Rattle.pages.specs.Page.{fair, agree, phase_of, task_as, task_in, decode_of, place_words, tag_of, since_of, task_words, encode_of};
 
 use crate::flow::{Flow, Standing, Task};
 use crate::layout;
 use plans::eval::Damaged;
-use runs::step::{Phase, Place};
-
-// The first `count` of the values, and zeros behind them.
-pub fn first_args(from: &[u64], count: usize) -> [u64; 16]
-    requires { (count ≤ 16) × (count ≤ length from.now) }
-    ensures { result ≡ fill (take count from.now) }
-{
-    let mut args = [0; 16];
-    args[0..count].copy_from_slice(&from[0..count]);
-    args
-}
+use runs::step::{Phase, Place, first_args};
 
 // Is it a task as plans may wish for it?
 pub fn is_fair(task: &Task) -> bool
@@ -53,8 +43,7 @@ fn phase_of(tag: u64, a: u64, b: u64, c: u64, d: u64) -> Result<Phase, Damaged>
     }
 }
 
-fn task_as(words: &[u64], standing: Standing) -> Result<Option<Task>, Damaged>
-    requires { length words.now ≡ 128 }
+fn task_as(words: &[u64; 128], standing: Standing) -> Result<Option<Task>, Damaged>
     ensures { result ≡ task_as words.now standing }
 {
     let count = words[layout::COUNT] as usize;
@@ -77,8 +66,7 @@ fn task_as(words: &[u64], standing: Standing) -> Result<Option<Task>, Damaged>
     }
 }
 
-fn task_in(words: &[u64]) -> Result<Option<Task>, Damaged>
-    requires { length words.now ≡ 128 }
+fn task_in(words: &[u64; 128]) -> Result<Option<Task>, Damaged>
     ensures { result ≡ task_in words.now }
 {
     match words[layout::STANDING] {
@@ -103,19 +91,11 @@ fn task_in(words: &[u64]) -> Result<Option<Task>, Damaged>
 fn agrees(phase: Phase, task: Option<Task>) -> bool
     ensures { result ≡ agree phase task }
 {
-    match phase {
-        Phase::Busy => task.is_none(),
-        Phase::Tasked { .. } => task.is_some(),
-        Phase::Asleep { .. } => task.is_none(),
-        Phase::Listens { .. } => task.is_none(),
-        Phase::Ended { .. } => task.is_none(),
-        Phase::Failed => task.is_none(),
-    }
+    matches!(phase, Phase::Tasked { .. }) == task.is_some()
 }
 
 // The flow that the words say.
-pub fn decode(words: &[u64]) -> Result<Flow, Damaged>
-    requires { length words.now ≡ 128 }
+pub fn decode(words: &[u64; 128]) -> Result<Flow, Damaged>
     ensures { result ≡ decode_of words.now }
 {
     let phase = phase_of(words[layout::PHASE], words[1], words[2], words[3], words[4])?;
@@ -206,12 +186,12 @@ fn task_words(task: &Option<Task>) -> [u64; 24]
 }
 
 // The words that say the flow.
-pub fn encode(flow: &Flow, out: &mut [u64])
-    requires { length out.old ≡ 128 }
-    ensures { out.new ≡ encode_of flow.now }
+pub fn encode(flow: &Flow) -> [u64; 128]
+    ensures { result ≡ encode_of flow.now }
 {
-    out[layout::PHASE..layout::STANDING].copy_from_slice(&place_words(flow.place));
-    out[layout::STANDING..layout::VARS].copy_from_slice(&task_words(&flow.task));
-    out[layout::VARS..layout::REST].copy_from_slice(&flow.vars);
-    out[layout::REST..layout::PAGE_WORDS].copy_from_slice(&[0; 32]);
+    let mut words = [0; layout::PAGE_WORDS];
+    words[layout::PHASE..layout::STANDING].copy_from_slice(&place_words(flow.place));
+    words[layout::STANDING..layout::VARS].copy_from_slice(&task_words(&flow.task));
+    words[layout::VARS..layout::REST].copy_from_slice(&flow.vars);
+    words
 }

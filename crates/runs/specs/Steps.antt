@@ -18,6 +18,9 @@ pub data Out : Type 0 where
   Lost : Out
   Went : Place → (vars : List ℕ) → List Wished → Out
 
+abbrev pub at_first : Place
+at_first = record { phase = Busy; here = 0; steps = 0; into = 0 }
+
 abbrev pub gone_to : ℕ → Place → Place
 gone_to a p = record { phase = Busy; here = a; steps = p.steps; into = p.into }
 

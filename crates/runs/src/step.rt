@@ -6,7 +6,7 @@ ghost use Rattle.runs.specs.Machine.{FlatFlow, Is};
 ghost use Rattle.runs.specs.Decode.{code_in};
 ghost use Rattle.runs.specs.Carried.{flow_in, Quiet};
 ghost use Rattle.runs.specs.Runs.{MovedTo};
-ghost use Rattle.runs.specs.Steps.{Out, fill, busy, gone_to, ended_as, fails_to, does_w, step_w, Placed, Stepped};
+ghost use Rattle.runs.specs.Steps.{Out, fill, at_first, busy, gone_to, ended_as, fails_to, does_w, step_w, Placed, Stepped};
 
 use crate::time::Time;
 use crate::unit::{Statement, deep_at, statement_at, word_at};
@@ -46,6 +46,20 @@ pub struct Place {
     pub steps: u64,
     // the variable that takes a task's result
     pub into: u64,
+}
+
+impl Place {
+    // With which a flow begins.
+    pub fn start() -> Place
+        ensures { result ≡ at_first }
+    {
+        Place {
+            phase: Phase::Busy,
+            here: 0,
+            steps: 0,
+            into: 0,
+        }
+    }
 }
 
 // A task that a flow wants done, with the first `count` of its arguments.

@@ -10,32 +10,17 @@ use reading::read;
 use runs::event::{heard, task_done, woken};
 use runs::flow::{Ran, run};
 use runs::step::{Phase, Place, Wish};
+use runs::time::Time;
 use std::alloc::Global;
 use std::io::{BufRead, BufReader};
-
-// The latest time that a run is told.
-const LAST_TIME: u64 = 4611686018427387904;
 
 // Runs after which a plan is left alone.
 const MOST_RUNS: usize = 20;
 
 // What a worker would answer.
 fn result_of(wish: Wish) -> u64 {
-    let mut sum = wish.kind;
-    for i in 0..wish.count.min(16) {
-        sum = sum.wrapping_add(wish.args[i]);
-    }
-    sum
-}
-
-// The place with which a flow begins.
-fn beginning() -> Place {
-    Place {
-        phase: Phase::Busy,
-        here: 0,
-        steps: 0,
-        into: 0,
-    }
+    let args = wish.args.iter().take(wish.count);
+    args.fold(wish.kind, |sum, arg| sum.wrapping_add(*arg))
 }
 
 // What a run came to, in words.
@@ -65,23 +50,20 @@ fn turn(
     words: &[u64],
     place: Place,
     time: u64,
-    vars: &mut [u64],
+    vars: &mut [u64; 64],
     stack: &mut [u64],
 ) -> anyhow::Result<Done> {
-    if words.len() > MOST_WORDS || vars.len() != 64 || time > LAST_TIME {
+    let Some(now) = Time::new(time) else {
         return Err(anyhow!("a run can't be made"));
-    }
-    let Ok(ran) = run(words, place, time, vars, stack) else {
+    };
+    let Ok(ran) = run(words, place, now, vars, stack) else {
         return Err(anyhow!("damaged words"));
     };
     after(words, ran, time, vars)
 }
 
 // Gives a flow what it waits for.
-fn after(words: &[u64], ran: Ran, time: u64, vars: &mut [u64]) -> anyhow::Result<Done> {
-    if words.len() > MOST_WORDS || vars.len() != 64 {
-        return Err(anyhow!("a run can't be made"));
-    }
+fn after(words: &[u64], ran: Ran, time: u64, vars: &mut [u64; 64]) -> anyhow::Result<Done> {
     let place = ran.moved.place;
     match place.phase {
         Phase::Busy => Ok(Done {
@@ -121,16 +103,11 @@ fn after(words: &[u64], ran: Ran, time: u64, vars: &mut [u64]) -> anyhow::Result
             }
             Ok(Done {
                 ran,
-                next: Some(heard(place, var, came, 0, 0, vars)),
+                next: Some(heard(place, var, came, None, vars)),
                 time: until,
             })
         }
-        Phase::Ended { .. } => Ok(Done {
-            ran,
-            next: None,
-            time,
-        }),
-        Phase::Failed => Ok(Done {
+        Phase::Ended { .. } | Phase::Failed => Ok(Done {
             ran,
             next: None,
             time,
@@ -143,10 +120,10 @@ fn carried(
     heap: Global,
     name: &str,
     words: &[u64],
-    vars: &mut [u64],
+    vars: &mut [u64; 64],
     stack: &mut [u64],
 ) -> anyhow::Result<String> {
-    let mut place = beginning();
+    let mut place = Place::start();
     let mut time = 0;
     let mut out = format!(in heap; "{name}")?;
     for _ in 0..MOST_RUNS {

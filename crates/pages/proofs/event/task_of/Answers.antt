@@ -8,8 +8,8 @@ use Rattle.pages.proofs.event.task_of.Goals as goal
 pub returns-in-Some : goal.returns-in-Some
 returns-in-Some c =
     let l : length c.in-Some.wish.args ≡ 16 = omega arith in
-    wish_is c.in-Some.wish c.args.time c.at_most_16-count.result c.first_args-args.result l c.at_most_16-count.ensures c.first_args-args.ensures
-    ∙ ap (λ (o : Option Wish). task_from c.args.time (wishes o)) (sym c.in-Some.is)
+    rw c.ms.ensures.is (wish_is c.in-Some.wish c.args.time c.min-count.result c.first_args-args.result l c.min-count.ensures c.first_args-args.ensures
+    ∙ ap (λ (o : Option Wish). task_from c.args.time (wishes o)) (sym c.in-Some.is))
 
 pub returns-in-None : goal.returns-in-None
 returns-in-None c = no_wish c.args.time ∙ ap (λ (o : Option Wish). task_from c.args.time (wishes o)) (sym c.in-None.is)
