@@ -1,12 +1,15 @@
 // Words in blocks of lasting memory that need not be neighbours.
 #![tactic(auto)]
 
-ghost use Rattle.std.specs.Prelude.{◌≡◌, ℕ, ◌+◌, ◌-◌, ◌*◌, ◌/◌, ◌%◌, ◌^◌, ◌<◌, ◌≤◌, length, get_or};
+ghost use Rattle.std.specs.Prelude.{◌≡◌, ℕ, ◌+◌, ◌-◌, ◌*◌, ◌/◌, ◌%◌, ◌^◌, ◌<◌, ◌≤◌, length};
 ghost use Rattle.device.specs.Does.{Did};
-ghost use Rattle.blocks.specs.Works.{blocks_in, inside as held, line_in, load_via, store_via, push_via, save_via};
+ghost use Rattle.words.specs.Works.{load_via, save_via};
+ghost use Rattle.blocks.specs.Works.{blocks_in, inside as held, line_in};
+ghost use Rattle.blocks.specs.Below.{line_in_below};
 ghost use Rattle.blocks.specs.Runs.{Runs, Reads, RunsCost};
 
 use device::{Device, Marks};
+use words::{Place, load_run, save_run};
 
 // Where the first block begins: behind 1 MiB.
 pub const FIRST_LINE: u64 = 16384;
@@ -30,75 +33,50 @@ fn inside(total: u64, block: u64) -> u64
     if block < total { block } else { 0 }
 }
 
-// Line `line` of what stands in these blocks.
-fn line_in(total: u64, blocks: &[u64], line: usize) -> u64
-    requires some { 0 < total }
-    requires few { total < 2 ^ 50 }
-    requires within { line / 128 < length blocks.now }
-    ensures is { result ≡ line_in total blocks.now line }
-    ensures low { result < 16384 + 128 * total }
-{
-    let block = inside(total, blocks[line / 128]);
-    FIRST_LINE + BLOCK_LINES * block + (line % 128) as u64
+// These blocks, of a memory that has so many.
+#[derive(Clone, Copy)]
+pub struct Blocks<'a> {
+    pub total: u64,
+    pub blocks: &'a [u64],
+    ghost some: { 0 < total },
+    ghost few: { total < 2 ^ 50 },
 }
 
-// Loads words from what stands in the blocks, as many as `out` has.
-pub fn load_blocks<D: Device>(dev: &mut D, total: u64, blocks: &[u64], out: &mut [u64])
-    requires fits { 16384 + 128 * total ≤ D.size dev.old }
-    requires some { 0 < total }
-    requires few { total < 2 ^ 50 }
-    requires within { length out.old ≤ 1024 * length blocks.now }
-    ensures did { Did D.step (load_via (line_in total blocks.now) 0 (length out.old)) dev.old out.new dev.new }
-    ensures stays { D.size dev.new ≡ D.size dev.old }
-{
-    for i in 0..out.len() {
-        let line = line_in(total, blocks, i / 8);
-        out[i] = dev.load(line, (i % 8) as u64);
+impl<'a> Place for Blocks<'a> {
+    ghost at = { λ b. line_in b.total b.blocks.now };
+
+    ghost count = { λ b. 128 * length b.blocks.now };
+
+    ghost end = { λ b. 16384 + 128 * b.total };
+
+    fn line(&self, i: usize) -> u64 {
+        let block = inside(self.total, self.blocks[i / 128]);
+        FIRST_LINE + BLOCK_LINES * block + (i % 128) as u64
     }
+
+    ghost below = { λ b i h. line_in_below b.total b.blocks.now i b.some };
 }
 
-// Stores the words into the blocks.
-fn store_blocks<D: Device>(dev: &mut D, total: u64, blocks: &[u64], words: &[u64])
-    requires fits { 16384 + 128 * total ≤ D.size dev.old }
-    requires some { 0 < total }
-    requires few { total < 2 ^ 50 }
-    requires within { length words.now ≤ 1024 * length blocks.now }
-    ensures did { Did D.step (store_via (line_in total blocks.now) 0 words.now) dev.old tt dev.new }
-    ensures stays { D.size dev.new ≡ D.size dev.old }
-{
-    for i in 0..words.len() {
-        let line = line_in(total, blocks, i / 8);
-        dev.store(line, (i % 8) as u64, words[i]);
+impl<'a> Blocks<'a> {
+    // Loads words from what stands in the blocks, as many as `out` has.
+    pub fn load<D: Device>(&self, dev: &mut D, out: &mut [u64])
+        requires fits { 16384 + 128 * self.now.total ≤ D.size dev.old }
+        requires within { length out.old ≤ 1024 * length self.now.blocks.now }
+        ensures did { Did D.step (load_via (line_in self.now.total self.now.blocks.now) 0 (length out.old)) dev.old out.new dev.new }
+        ensures stays { D.size dev.new ≡ D.size dev.old }
+    {
+        load_run(dev, self, out);
     }
-}
 
-// Pushes the first `count` lines of the blocks.
-fn push_blocks<D: Device>(dev: &mut D, total: u64, blocks: &[u64], count: usize)
-    requires fits { 16384 + 128 * total ≤ D.size dev.old }
-    requires some { 0 < total }
-    requires few { total < 2 ^ 50 }
-    requires within { count ≤ 128 * length blocks.now }
-    ensures did { Did D.step (push_via (line_in total blocks.now) count) dev.old tt dev.new }
-    ensures stays { D.size dev.new ≡ D.size dev.old }
-{
-    for i in 0..count {
-        let line = line_in(total, blocks, i);
-        dev.push(line);
+    // Stores the words into the blocks, and pushes the lines that hold them.
+    pub fn save<D: Device>(&self, dev: &mut D, words: &[u64])
+        requires fits { 16384 + 128 * self.now.total ≤ D.size dev.old }
+        requires within { length words.now ≤ 1024 * length self.now.blocks.now }
+        ensures did { Did D.step (save_via (line_in self.now.total self.now.blocks.now) ((length words.now + 7) / 8) words.now) dev.old tt dev.new }
+        ensures stays { D.size dev.new ≡ D.size dev.old }
+    {
+        save_run(dev, self, words.len().div_ceil(8), words);
     }
-}
-
-// Stores the words into the blocks, and pushes the lines that hold them.
-pub fn save_blocks<D: Device>(dev: &mut D, total: u64, blocks: &[u64], words: &[u64])
-    requires fits { 16384 + 128 * total ≤ D.size dev.old }
-    requires some { 0 < total }
-    requires few { total < 2 ^ 50 }
-    requires within { length words.now ≤ 1024 * length blocks.now }
-    ensures did { Did D.step (save_via (line_in total blocks.now) ((length words.now + 7) / 8) words.now) dev.old tt dev.new }
-    ensures stays { D.size dev.new ≡ D.size dev.old }
-{
-    store_blocks(dev, total, blocks, words);
-    let count = words.len() / 8 + (words.len() % 8 + 7) / 8;
-    push_blocks(dev, total, blocks, count);
 }
 
 // What loading and saving such runs does while a call drafts, for any set of lines that count.

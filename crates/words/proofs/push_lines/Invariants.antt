@@ -1,9 +1,0 @@
-use mathlib.Core.Path.{◌≡◌}
-use Rattle.device.specs.Does.{Turning}
-use Rattle.words.specs.Works.{push_turn}
-use Rattle.words.proofs.push_lines.Given as goal
-
-abbrev pub invariant-loop-i : goal.invariant-loop-i
-invariant-loop-i g l =
-    let d = g.D.Device in
-    (d.size l.dev ≡ d.size l.initial.dev) × Turning d.step (push_turn l.line) l.i l.count tt l.dev tt l.initial.dev
