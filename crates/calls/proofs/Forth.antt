@@ -1,11 +1,12 @@
 -- What is read was written so.
 use Rattle.std.proofs.Common.{◌≡◌, ℕ, zero, suc, ◌+◌, ◌*◌, ◌/◌, ◌%◌, ◌<◌, ◌≤◌, Bool, true, false, cond, ◌&&◌, eqb, leb, List, [], ◌∷◌, ◌++◌, length, get_or, drop, Some, None, Option, sym, refl, ap, ◌∙◌, subst, append-nil, arith, length-drop, take-append-drop, length-take-le, drop-cons, drop-drop, eqb-true, leb-true}
 use Rattle.std.proofs.lemmas.Bool.{and_parts}
-use Rattle.calls.specs.Bytes.{two_at, four_at, eight_at, eights, fours, words_in, kinds_in, two_bytes, four_bytes, eight_bytes, all_eight, all_four}
+use Rattle.calls.specs.Bytes.{two_at, four_at, eight_at, numbers, eights, fours, words_in, kinds_in, two_bytes, four_bytes, eight_bytes, all_eight, all_four}
 use Rattle.calls.specs.Parts.{Front, front, cut_in, short_in, long_in, many_in}
 use Rattle.calls.specs.Raw.{Raw, Start', Tell', Cancel', Take', Longer', Report', Show', Forget', Time', raw_bytes, kind_in, bit, only_key, keyed, start_key, start_plan, start_words, tell_key, tell_name, take_kinds, longer_in, report_in, time_in}
 use Rattle.calls.specs.Stands.{Below, ReadsOnly}
-use Rattle.calls.proofs.Many.{two_past, four_past, eight_past, length_eights, length_fours}
+use Rattle.calls.specs.BytesLemmas.{two_past, four_past, eight_past}
+use Rattle.calls.proofs.Many.{length_numbers}
 
 -- tests -----------------------------------------------------------------------
 
@@ -108,14 +109,14 @@ eight_front f l h =
     ∙ four_front f (omega arith) h)))
 
 pub eights_forth : (n : ℕ) (f : List ℕ) → length f ≡ 8 * n → Below 256 f → all_eight (eights n f) ≡ f
-unfolding eights all_eight
+unfolding numbers all_eight
 eights_forth zero f e h = sym (none_left f (omega arith))
 eights_forth (suc n) f e h =
     let ld = length-drop 8 f in
     ap (λ r. eight_bytes (eight_at f 0) ++ r) (eights_forth n (drop 8 f) (omega arith) (below_drop 8 f h)) ∙ eight_front f (omega arith) h
 
 pub fours_forth : (n : ℕ) (f : List ℕ) → length f ≡ 4 * n → Below 256 f → all_four (fours n f) ≡ f
-unfolding fours all_four
+unfolding numbers all_four
 fours_forth zero f e h = sym (none_left f (omega arith))
 fours_forth (suc n) f e h =
     let ld = length-drop 4 f in
@@ -124,13 +125,13 @@ fours_forth (suc n) f e h =
 pub words_forth : (n : ℕ) (f r : List ℕ) → length f ≡ 8 * n → Below 256 f → length (words_in f) ∷ (all_eight (words_in f) ++ r) ≡ n ∷ (f ++ r)
 words_forth n f r e h =
     let q : length f / 8 ≡ n = omega arith in
-    ap (λ m. m ∷ (all_eight (words_in f) ++ r)) (length_eights (length f / 8) f ∙ q)
+    ap (λ m. m ∷ (all_eight (words_in f) ++ r)) (length_numbers 8 eight_at (length f / 8) f ∙ q)
     ∙ ap (λ b. n ∷ (b ++ r)) (ap (λ m. all_eight (eights m f)) q ∙ eights_forth n f e h)
 
 pub kinds_forth : (n : ℕ) (f r : List ℕ) → length f ≡ 4 * n → Below 256 f → length (kinds_in f) ∷ (all_four (kinds_in f) ++ r) ≡ n ∷ (f ++ r)
 kinds_forth n f r e h =
     let q : length f / 4 ≡ n = omega arith in
-    ap (λ m. m ∷ (all_four (kinds_in f) ++ r)) (length_fours (length f / 4) f ∙ q)
+    ap (λ m. m ∷ (all_four (kinds_in f) ++ r)) (length_numbers 4 four_at (length f / 4) f ∙ q)
     ∙ ap (λ b. n ∷ (b ++ r)) (ap (λ m. all_four (fours m f)) q ∙ fours_forth n f e h)
 
 -- parts -----------------------------------------------------------------------

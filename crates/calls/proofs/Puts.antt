@@ -1,14 +1,37 @@
 -- Writes, one behind the other.
-use Rattle.std.proofs.Common.{◌≡◌, ℕ, suc, ◌+◌, ◌*◌, ◌<◌, ◌≤◌, Bool, true, false, ◌&&◌, leb, List, [], ◌∷◌, ◌++◌, length, get_or, take, drop, set, Some, None, sym, refl, ap, ◌∙◌, append_assoc, add-zero, zero-add, add-one, arith, length-take-le, take-suc, le-leb}
+use Rattle.std.proofs.Common.{◌≡◌, ℕ, suc, ◌+◌, ◌*◌, ◌/◌, ◌%◌, ◌<◌, ◌≤◌, true, false, List, [], ◌∷◌, ◌++◌, length, get_or, take, drop, set, Some, None, sym, refl, ap, ◌∙◌, append_assoc, add-zero, zero-add, add-one, arith, length-take-le, take-suc, le-leb}
+use Rattle.std.proofs.lemmas.List.{drop-drop}
 use lib.Seq.{sets, sets-eq}
+use borrow.Rule.Slice.PartMut.{put_mid}
+use Rattle.std.specs.Int.{to_be_bytes}
+use mir.Syntax.{w32, w64}
 use borrow.Author.Tests.{lt-leb}
-use Rattle.std.proofs.lemmas.Bool.{cond-true, cond-false, and_from, and_right}
+use Rattle.std.proofs.lemmas.Bool.{cond-true, cond-false}
 use Rattle.calls.specs.Bytes.{two_bytes, four_bytes, eight_bytes, all_eight}
 use Rattle.calls.specs.Replies.{words_of, bytes_of, fitting, Wrote}
 use Rattle.calls.specs.Lines.{framed}
 use Rattle.calls.specs.declared.types.Job.{Job as JobHeld}
 use Rattle.calls.specs.declared.types.Reply.{Reply}
 use Rattle.calls.specs.declared.types.Reply.TheVariants.{Job}
+
+-- a part of a slice that is written over
+pub put_is : (out bytes : List ℕ) (at k : ℕ) → k ≡ length bytes → at + length bytes ≤ length out → put_mid at k out bytes ≡ sets out at bytes
+put_is out bytes at k e h = ap (λ (l : List ℕ). take at out ++ (bytes ++ l)) (drop-drop k at out ∙ ap (λ (j : ℕ). drop j out) (let z : at + k ≡ at + length bytes = omega arith in z)) ∙ sym (append_assoc (take at out) bytes (drop (at + length bytes) out)) ∙ sym (sets-eq bytes out at h)
+
+-- a number's bytes
+pub eight_is : (n : ℕ) → to_be_bytes w64 n ≡ eight_bytes n
+eight_is n =
+    let a : n / 72057594037927936 % 256 ≡ n / 4294967296 / 16777216 % 256 = omega arith in
+    let b : n / 281474976710656 % 256 ≡ n / 4294967296 / 65536 % 256 = omega arith in
+    let c : n / 1099511627776 % 256 ≡ n / 4294967296 / 256 % 256 = omega arith in
+    let d : n / 16777216 % 256 ≡ n % 4294967296 / 16777216 % 256 = omega arith in
+    let e : n / 65536 % 256 ≡ n % 4294967296 / 65536 % 256 = omega arith in
+    let f : n / 256 % 256 ≡ n % 4294967296 / 256 % 256 = omega arith in
+    let g : n % 256 ≡ n % 4294967296 % 256 = omega arith in
+    λ i. a i ∷ b i ∷ c i ∷ n / 4294967296 % 256 ∷ d i ∷ e i ∷ f i ∷ g i ∷ []
+
+pub four_is : (n : ℕ) → to_be_bytes w32 n ≡ four_bytes n
+four_is n = refl
 
 pub sets_append : (a b l : List ℕ) (i : ℕ) → sets (sets l i a) (i + length a) b ≡ sets l i (a ++ b)
 sets_append [] b l i = ap (λ k. sets l k b) (add-zero i)
@@ -74,19 +97,14 @@ job_size r j e =
     let m : length (bytes_of (Job j)) ≡ 24 + 8 * length (words_of j) = omega arith in
     ap (λ x. length (bytes_of x)) e ∙ m
 
-pub wrote_none : (well : Bool) (bs old : List ℕ) → well ≡ false → Wrote well bs old old None
-wrote_none well bs old e =
-    let f : fitting well bs old ≡ false = ap (λ w. w && leb (length bs) (length old)) e in
+pub wrote_short : (bs old : List ℕ) → length old < length bs → Wrote bs old old None
+wrote_short bs old h =
+    let f : fitting bs old ≡ false = lt-leb (length bs) (length old) h in
     record { count = sym (cond-false _ (Some (length bs)) None f); bytes = sym (cond-false _ (bs ++ drop (length bs) old) old f) }
 
-pub wrote_short : (well : Bool) (bs old : List ℕ) → length old < length bs → Wrote well bs old old None
-wrote_short well bs old h =
-    let f : fitting well bs old ≡ false = and_right well _ (lt-leb (length bs) (length old) h) in
-    record { count = sym (cond-false _ (Some (length bs)) None f); bytes = sym (cond-false _ (bs ++ drop (length bs) old) old f) }
-
-pub wrote_some : (well : Bool) (bs old new : List ℕ) (n : ℕ) → well ≡ true → length bs ≤ length old → new ≡ sets old 0 bs → n ≡ length bs → Wrote well bs old new (Some n)
-wrote_some well bs old new n e h w c =
-    let f : fitting well bs old ≡ true = and_from well _ e (le-leb (length bs) (length old) h) in
+pub wrote_some : (bs old new : List ℕ) (n : ℕ) → length bs ≤ length old → new ≡ sets old 0 bs → n ≡ length bs → Wrote bs old new (Some n)
+wrote_some bs old new n h w c =
+    let f : fitting bs old ≡ true = le-leb (length bs) (length old) h in
     let z : 0 + length bs ≤ length old = omega arith in
     let s : sets old 0 bs ≡ bs ++ drop (length bs) old = sets-eq bs old 0 z ∙ ap (λ k. bs ++ drop k old) (zero-add (length bs)) in
     record { count = ap Some c ∙ sym (cond-true _ (Some (length bs)) None f); bytes = w ∙ (s ∙ sym (cond-true _ (bs ++ drop (length bs) old) old f)) }

@@ -4,12 +4,12 @@ use Rattle.std.proofs.lemmas.Bool.{and_from}
 use Rattle.plans.specs.Plan.{every}
 use Rattle.text.specs.Text.{Reading, nothing, plan, read_text}
 use Rattle.flows.specs.House.{bytes_ok, carried}
-use Rattle.calls.specs.Bytes.{two_at, four_at, eight_at, eights, fours, words_in, kinds_in, four_bytes}
+use Rattle.calls.specs.Bytes.{two_at, four_at, eight_at, numbers, eights, fours, words_in, kinds_in, four_bytes}
 use Rattle.calls.specs.Parts.{Front, cut_in, short_in, long_in, many_in}
 use Rattle.calls.specs.Raw.{Raw, Start', Tell', Cancel', Take', Longer', Report', Show', Forget', Time', raw_in, kind_in, only_key, keyed, start_key, start_plan, start_words, tell_key, tell_name, take_kinds, longer_in, report_in, time_in}
 use Rattle.calls.specs.Called.{started}
 use Rattle.calls.specs.Stands.{Below, Short, StartIn, TryIn, InRange, InRangeOf, AllCarried, CallsCarried}
-use Rattle.calls.proofs.Many.{length_eights, length_fours}
+use Rattle.calls.proofs.Many.{length_numbers}
 use Rattle.calls.proofs.Forth.{no_some, opened, byte, below_drop, below_left, below_right, below_tail, four_bound, cut_forth, Many, many_forth, short_forth, long_forth, short_rest, long_rest, keyed_forth, either}
 
 pub below_typed : (f : List ℕ) → ((i : ℕ) → get_or f i 0 < 256) → Below 256 f
@@ -34,12 +34,12 @@ eight_bound : (f : List ℕ) (i : ℕ) → Below 256 f → eight_at f i < 184467
 eight_bound f i h = big (four_at f i) (four_at f (i + 4)) (four_bound f i h) (four_bound f (i + 4) h)
 
 eights_below : (n : ℕ) (f : List ℕ) → Below 256 f → Below 18446744073709551616 (eights n f)
-unfolding Below eights
+unfolding Below numbers
 eights_below zero f h = tt
 eights_below (suc n) f h = (eight_bound f 0 h, eights_below n (drop 8 f) (below_drop 8 f h))
 
 fours_below : (n : ℕ) (f : List ℕ) → Below 256 f → Below 4294967296 (fours n f)
-unfolding Below fours
+unfolding Below numbers
 fours_below zero f h = tt
 fours_below (suc n) f h = (four_bound f 0 h, fours_below n (drop 4 f) (below_drop 4 f h))
 
@@ -72,7 +72,7 @@ words_range k t g c (Some p) sk lt bt h i e =
     let b = many_bytes 8 g p m h in
     let n = below_head m.n (p.part ++ p.rest) b in
     let l = m.len in
-    let ll = length_eights (length p.part / 8) p.part in
+    let ll = length_numbers 8 eight_at (length p.part / 8) p.part in
     let d : length p.part / 8 ≡ m.n = omega arith in
     let few : length (words_in p.part) < 256 = subst (λ x. x < 256) (sym (ll ∙ d)) n in
     subst InRange q (record { key = sk; few = lt; bytes = bt; count = few; words = eights_below (length p.part / 8) p.part (below_left p.part p.rest (below_tail _ _ b)) })
@@ -107,7 +107,7 @@ take_range f c (Some p) h i e =
     let b = many_bytes 4 f p m h in
     let n = below_head m.n (p.part ++ p.rest) b in
     let l = m.len in
-    let ll = length_fours (length p.part / 4) p.part in
+    let ll = length_numbers 4 four_at (length p.part / 4) p.part in
     let d : length p.part / 4 ≡ m.n = omega arith in
     let few : length (kinds_in p.part) < 256 = subst (λ x. x < 256) (sym (ll ∙ d)) n in
     let both = below_tail _ _ b in

@@ -1,24 +1,18 @@
 -- Numbers in bytes, the high byte first. Assumes nothing.
-use Rattle.std.specs.Prelude.{ℕ, zero, suc, ◌+◌, ◌*◌, ◌/◌, ◌%◌, List, [], ◌∷◌, ◌++◌, length, drop, slice_index}
-
+use Rattle.std.specs.Prelude.{ℕ, zero, suc, ◌/◌, ◌%◌, List, [], ◌∷◌, ◌++◌, length, drop}
 -- the number at a place
-abbrev pub two_at : List ℕ → ℕ → ℕ
-two_at f i = slice_index f i * 256 + slice_index f (i + 1)
+pub use Rattle.wire.specs.Bytes.{two_at, four_at, eight_at}
 
-abbrev pub four_at : List ℕ → ℕ → ℕ
-four_at f i = slice_index f i * 16777216 + (slice_index f (i + 1) * 65536 + (slice_index f (i + 2) * 256 + slice_index f (i + 3)))
+-- so many numbers of this width, one behind the other
+unfoldable pub numbers : (width : ℕ) → (List ℕ → ℕ → ℕ) → ℕ → List ℕ → List ℕ
+numbers w at zero f = []
+numbers w at (suc n) f = at f 0 ∷ numbers w at n (drop w f)
 
-abbrev pub eight_at : List ℕ → ℕ → ℕ
-eight_at f i = four_at f i * 4294967296 + four_at f (i + 4)
+abbrev pub eights : ℕ → List ℕ → List ℕ
+eights = numbers 8 eight_at
 
--- so many numbers, one behind the other
-unfoldable pub eights : ℕ → List ℕ → List ℕ
-eights zero f = []
-eights (suc n) f = eight_at f 0 ∷ eights n (drop 8 f)
-
-unfoldable pub fours : ℕ → List ℕ → List ℕ
-fours zero f = []
-fours (suc n) f = four_at f 0 ∷ fours n (drop 4 f)
+abbrev pub fours : ℕ → List ℕ → List ℕ
+fours = numbers 4 four_at
 
 -- as many as there are
 abbrev pub words_in : List ℕ → List ℕ

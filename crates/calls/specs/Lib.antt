@@ -1,6 +1,8 @@
 pub mod Bytes
 pub mod Parts
 pub mod Raw
+pub mod BytesLemmas
+pub mod Held
 pub mod Seen
 pub mod Replies
 pub mod Lines

@@ -1,13 +1,14 @@
 -- The answers, and their bytes. Assumes nothing.
-use Rattle.std.specs.Prelude.{◌≡◌, ℕ, Bool, true, false, cond, ◌&&◌, List, [], ◌∷◌, ◌++◌, length, take, drop, Some, None, Option, nat_le}
+use Rattle.std.specs.Prelude.{◌≡◌, ℕ, Bool, cond, List, [], ◌∷◌, ◌++◌, length, take, drop, Some, None, Option, nat_le}
 use Rattle.plans.specs.Plan.{Phase as MeantPhase, Busy as busyP, Tasked as taskedP, Asleep as asleepP, Listens as listensP, Ended as endedP, Failed as failedP}
 use Rattle.flows.specs.House.{Reply as Meant, No as noM, Yes as yesM, Flow' as flowM, Job as jobM, Nothing as nothingM, State as stateM, Full' as fullM}
 use Rattle.runs.specs.declared.step.Phase.{Phase}
 use Rattle.runs.specs.declared.step.Phase.TheVariants.{Busy, Tasked, Asleep, Listens, Ended, Failed}
+use Rattle.wire.specs.Frames.{number_of}
 use Rattle.calls.specs.Bytes.{two_bytes, four_bytes, eight_bytes, all_eight}
 use Rattle.calls.specs.declared.types.Job.{Job as JobHeld}
 use Rattle.calls.specs.declared.types.Reply.{Reply}
-use Rattle.calls.specs.declared.types.Reply.TheVariants.{No, Yes, Flow, Job, Nothing, State, Full, Damaged}
+use Rattle.calls.specs.declared.types.Reply.TheVariants.{No, Yes, Flow, Job, Nothing, State, Full}
 
 -- THE BYTES OF AN ANSWER -----------------------------------------------------------
 
@@ -47,34 +48,22 @@ phase_of Failed = failedP
 abbrev pub words_of : JobHeld → List ℕ
 words_of j = take j.count j.args
 
--- Damaged never goes out: it has a number that no answer has
 abbrev pub reply_of : Reply → Meant
-reply_of (No n) = noM n
+reply_of (No why) = noM (number_of why)
 reply_of Yes = yesM
 reply_of (Flow f) = flowM f.0
 reply_of (Job j) = jobM j.flow.0 j.step.0 j.attempt.0 j.kind (words_of j)
 reply_of Nothing = nothingM
 reply_of (State p) = stateM (phase_of p)
 reply_of Full = fullM
-reply_of Damaged = noM 0
-
-abbrev pub goes_out : Reply → Bool
-goes_out (No n) = true
-goes_out Yes = true
-goes_out (Flow f) = true
-goes_out (Job j) = true
-goes_out Nothing = true
-goes_out (State p) = true
-goes_out Full = true
-goes_out Damaged = false
 
 abbrev pub bytes_of : Reply → List ℕ
 bytes_of r = reply_bytes (reply_of r)
 
--- bs at the front of the old bytes, where all is well and there is room; else nothing is written
-abbrev pub fitting : Bool → List ℕ → List ℕ → Bool
-fitting well bs old = well && nat_le (length bs) (length old)
+-- bs at the front of the old bytes, where there is room; else nothing is written
+abbrev pub fitting : List ℕ → List ℕ → Bool
+fitting bs old = nat_le (length bs) (length old)
 
-pub record Wrote (well : Bool) (bs old new : List ℕ) (r : Option ℕ) : Type 0 where
-  pub count : r ≡ cond (fitting well bs old) (Some (length bs)) None
-  pub bytes : new ≡ cond (fitting well bs old) (bs ++ drop (length bs) old) old
+pub record Wrote (bs old new : List ℕ) (r : Option ℕ) : Type 0 where
+  pub count : r ≡ cond (fitting bs old) (Some (length bs)) None
+  pub bytes : new ≡ cond (fitting bs old) (bs ++ drop (length bs) old) old

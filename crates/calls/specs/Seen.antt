@@ -1,12 +1,12 @@
 -- What the code's values are in the meaning. Assumes nothing.
 use Rattle.std.specs.Prelude.{ℕ, List, Some, None, Option}
-use Rattle.calls.specs.Bytes.{words_in, kinds_in}
+use Rattle.calls.specs.Bytes.{eight_at, four_at}
+use Rattle.calls.specs.Held.{numbers_held}
 use Rattle.calls.specs.Parts.{Front}
 use Rattle.calls.specs.Raw.{Raw, Start', Tell', Cancel', Take', Longer', Report', Show', Forget', Time'}
 use Rattle.calls.specs.declared.lines.Frame.{Frame}
 use Rattle.calls.specs.declared.read.Cut.{Cut}
-use Rattle.calls.specs.declared.types.Words.{Words}
-use Rattle.calls.specs.declared.types.Kinds.{Kinds}
+use Rattle.calls.specs.declared.types.Numbers.{Numbers}
 use Rattle.calls.specs.declared.types.Call.{Call}
 use Rattle.calls.specs.declared.types.Call.TheVariants.{Start, Tell, Cancel, Take, Longer, Report, Show, Forget, Time}
 
@@ -14,11 +14,11 @@ abbrev pub cut_seen : Option Cut → Option Front
 cut_seen None = None
 cut_seen (Some c) = Some (record { part = c.part.now; rest = c.rest.now })
 
-abbrev pub words_held : Words → List ℕ
-words_held w = words_in w.bytes.now
+abbrev pub words_held : Numbers ℕ → List ℕ
+words_held w = numbers_held 8 eight_at w
 
-abbrev pub kinds_held : Kinds → List ℕ
-kinds_held k = kinds_in k.bytes.now
+abbrev pub kinds_held : Numbers ℕ → List ℕ
+kinds_held k = numbers_held 4 four_at k
 
 -- a call with the bytes that its parts are
 abbrev pub raw_of : Call → Raw

@@ -1,7 +1,6 @@
 // The calls of a house and its answers: as values, and as bytes.
 #![tactic(auto)]
 
-pub mod bytes;
 pub mod lines;
 pub mod read;
 pub mod types;
@@ -22,7 +21,7 @@ pub fn calls_stand() -> u8
 mod tests {
     use super::lines::frame_of;
     use super::read::read_call;
-    use super::types::{Call, Reply};
+    use super::types::{Call, Refusal, Reply};
     use super::write::write_line;
     use std::test::Fail;
 
@@ -40,7 +39,7 @@ mod tests {
         assert_eq!(rt; key.len(), 1);
         assert_eq!(rt; plan.len(), 2);
         assert_eq!(rt; words.len(), 1);
-        assert_eq!(rt; words.get(0), 261);
+        assert_eq!(rt; words.get(0), Some(261));
         Ok(())
     }
 
@@ -48,7 +47,7 @@ mod tests {
     fn writes_an_answer(rt: HostRuntime) -> Result<(), Fail> {
         let mut out = [9; 160];
         assert_eq!(rt;
-            write_line(258, &Reply::No(5), &mut out).ok_or("no room")?,
+            write_line(258, &Reply::No(Refusal::NotOut), &mut out).ok_or("no room")?,
             10
         );
         assert!(rt; out[3] == 6 && out[6] == 1 && out[7] == 2);

@@ -3,7 +3,7 @@ ghost use Rattle.std.specs.Prelude.{◌≡◌};
 ghost use Rattle.calls.specs.Lines.{tag_in, body_in};
 ghost use Rattle.calls.specs.Seen.{body_seen};
 
-use crate::bytes::four_at;
+use wire::bytes::four_at;
 
 // The tag, and the call's bytes where the length is right.
 #[derive(Clone, Copy)]

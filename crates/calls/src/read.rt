@@ -5,8 +5,8 @@ ghost use Rattle.calls.specs.Raw.{Cancel', Show', Forget', only_key, keyed, star
 ghost use Rattle.calls.specs.Seen.{cut_seen, call_seen};
 ghost use Rattle.calls.specs.Stands.{InRangeOf};
 
-use crate::bytes::{eight_at, four_at, two_at};
 use crate::types::{Attempt, Call, FlowId, Kinds, Step, Words};
+use wire::bytes::{eight_at, four_at, two_at};
 
 // Some bytes at the front, and what follows them.
 #[derive(Clone, Copy)]
@@ -18,10 +18,7 @@ pub(crate) struct Cut<'a> {
 fn split(bytes: &[u8], n: usize) -> Option<Cut<'_>>
     ensures { cut_seen result ≡ cut_in n bytes.now }
 {
-    if bytes.len() < n {
-        return None;
-    }
-    let (part, rest) = bytes.split_at(n);
+    let (part, rest) = bytes.split_at_checked(n)?;
     Some(Cut { part, rest })
 }
 
@@ -29,10 +26,8 @@ fn split(bytes: &[u8], n: usize) -> Option<Cut<'_>>
 fn short(bytes: &[u8]) -> Option<Cut<'_>>
     ensures { cut_seen result ≡ short_in bytes.now }
 {
-    if bytes.len() < 1 {
-        return None;
-    }
-    split(&bytes[1..], bytes[0] as usize)
+    let (count, rest) = bytes.split_first()?;
+    split(rest, usize::from(*count))
 }
 
 // A length of four bytes, and so many bytes.
@@ -50,10 +45,8 @@ fn many(bytes: &[u8], size: usize) -> Option<Cut<'_>>
     requires { size ≤ 8 }
     ensures { cut_seen result ≡ many_in size bytes.now }
 {
-    if bytes.len() < 1 {
-        return None;
-    }
-    split(&bytes[1..], size * bytes[0] as usize)
+    let (count, rest) = bytes.split_first()?;
+    split(rest, size * usize::from(*count))
 }
 
 // A key and no more.
@@ -61,7 +54,7 @@ fn key_alone(bytes: &[u8]) -> Option<&[u8]>
     ensures { elim result [ some k ↦ only_key (short_in bytes.now) ≡ some k.now | none ↦ only_key (short_in bytes.now) ≡ none ] }
 {
     let key = short(bytes)?;
-    if key.rest.len() != 0 {
+    if !key.rest.is_empty() {
         return None;
     }
     Some(key.part)
@@ -73,13 +66,13 @@ fn start(bytes: &[u8]) -> Option<Call<'_>>
     let key = short(bytes)?;
     let plan = long(key.rest)?;
     let words = many(plan.rest, 8)?;
-    if words.rest.len() != 0 {
+    if !words.rest.is_empty() {
         return None;
     }
     Some(Call::Start {
         key: key.part,
         plan: plan.part,
-        words: Words { bytes: words.part },
+        words: Words::new(words.part),
     })
 }
 
@@ -113,7 +106,7 @@ fn take(bytes: &[u8]) -> Option<Call<'_>>
         return None;
     }
     Some(Call::Take {
-        kinds: Kinds { bytes: kinds.part },
+        kinds: Kinds::new(kinds.part),
         ms: four_at(kinds.rest, 0),
     })
 }
@@ -138,14 +131,16 @@ fn report(bytes: &[u8]) -> Option<Call<'_>>
     if bytes.len() != 27 {
         return None;
     }
-    if bytes[18] > 1 {
-        return None;
-    }
+    let well = match bytes[18] {
+        0 => false,
+        1 => true,
+        _ => return None,
+    };
     Some(Call::Report {
         flow: FlowId(eight_at(bytes, 0)),
         step: Step(eight_at(bytes, 8)),
         attempt: Attempt(two_at(bytes, 16)),
-        well: bytes[18] == 1,
+        well,
         value: eight_at(bytes, 19),
     })
 }
@@ -197,8 +192,6 @@ pub fn read_call(bytes: &[u8]) -> Option<Call<'_>>
     ensures is { call_seen result ≡ raw_in bytes.now }
     ensures ranged { InRangeOf (call_seen result) }
 {
-    if bytes.len() < 1 {
-        return None;
-    }
-    of_kind(bytes[0], &bytes[1..])
+    let (kind, rest) = bytes.split_first()?;
+    of_kind(*kind, rest)
 }

@@ -1,9 +1,14 @@
 // Calls and answers as values.
-ghost use Rattle.std.specs.Prelude.{◌≡◌, length, slice_index};
-ghost use Rattle.calls.specs.Seen.{words_held, kinds_held};
+ghost use Rattle.std.specs.Prelude.{◌≡◌, ◌↔◌, ℕ, ◌+◌, ◌*◌, ◌<◌, ◌≤◌, List, length, drop, slice_index, IfSome, IsSome};
+ghost use Rattle.std.proofs.Common.{arith};
+ghost use Rattle.wire.specs.Bytes.{eight_at, four_at};
+ghost use Rattle.calls.specs.BytesLemmas.{eight_shifts, four_shifts};
+ghost use Rattle.calls.specs.Held.{numbers_held};
 
-use crate::bytes::{eight_at, four_at};
 use runs::step::Phase;
+use std::marker::PhantomData;
+pub use wire::Refusal;
+use wire::bytes::{eight_at, four_at};
 
 #[derive(Clone, Copy, PartialEq, Eq, Debug)]
 pub struct FlowId(pub u64);
@@ -15,54 +20,102 @@ pub struct Step(pub u64);
 #[derive(Clone, Copy, PartialEq, Eq, Debug)]
 pub struct Attempt(pub u16);
 
-// Words of 8 bytes as they stand in a call.
-#[derive(Clone, Copy)]
-pub struct Words<'a> {
-    pub(crate) bytes: &'a [u8],
+// A number of a fixed width in bytes, the high byte first.
+pub trait Wide {
+    ghost WIDTH: { ℕ };
+
+    // the number at a place
+    ghost at: { List ℕ → ℕ → ℕ };
+
+    // what a clause sees of it
+    ghost number: { Self → ℕ };
+
+    const WIDTH: usize;
+
+    fn at(bytes: &[u8], place: usize) -> Self
+        requires { place + WIDTH ≤ length bytes.now }
+        ensures { number result ≡ at bytes.now place };
+
+    ghost some: { 0 < WIDTH };
+
+    // a drop in front of it leaves it as it is
+    ghost shifts: { (f : List ℕ) (n i : ℕ) → at (drop n f) i ≡ at f (n + i) };
 }
 
-impl<'a> Words<'a> {
-    pub fn len(&self) -> usize
-        ensures { result ≡ length (words_held self.now) }
-    {
-        self.bytes.len() / 8
-    }
+impl Wide for u64 {
+    ghost WIDTH = { 8 };
 
-    // 0 past the last.
-    pub fn get(&self, i: usize) -> u64
-        ensures { result ≡ slice_index (words_held self.now) i }
+    ghost at = { eight_at };
+
+    ghost number = { λ n. n };
+
+    ghost some = { Prim.omega arith };
+
+    ghost shifts = { eight_shifts };
+
+    const WIDTH: usize = 8;
+
+    fn at(bytes: &[u8], place: usize) -> u64 {
+        eight_at(bytes, place)
+    }
+}
+
+impl Wide for u32 {
+    ghost WIDTH = { 4 };
+
+    ghost at = { four_at };
+
+    ghost number = { λ n. n };
+
+    ghost some = { Prim.omega arith };
+
+    ghost shifts = { four_shifts };
+
+    const WIDTH: usize = 4;
+
+    fn at(bytes: &[u8], place: usize) -> u32 {
+        four_at(bytes, place)
+    }
+}
+
+// Numbers of one width, as they stand in a call.
+#[derive(Clone, Copy)]
+pub struct Numbers<'a, T> {
+    bytes: &'a [u8],
+    of: PhantomData<T>,
+}
+
+// The words of a flow.
+pub type Words<'a> = Numbers<'a, u64>;
+
+// Kinds of tasks.
+pub type Kinds<'a> = Numbers<'a, u32>;
+
+impl<'a, T: Wide> Numbers<'a, T> {
+    // What is left behind the last whole number is none.
+    pub(crate) fn new(bytes: &'a [u8]) -> Numbers<'a, T>
+        ensures { result.bytes.now ≡ bytes.entry.now }
     {
-        let bytes = self.bytes;
-        if i < bytes.len() / 8 {
-            eight_at(bytes, 8 * i)
-        } else {
-            0
+        Numbers {
+            bytes,
+            of: PhantomData,
         }
     }
-}
 
-// Kinds of tasks, of 4 bytes each, as they stand in a call.
-#[derive(Clone, Copy)]
-pub struct Kinds<'a> {
-    pub(crate) bytes: &'a [u8],
-}
-
-impl<'a> Kinds<'a> {
     pub fn len(&self) -> usize
-        ensures { result ≡ length (kinds_held self.now) }
+        ensures { result ≡ length (numbers_held T.WIDTH T.at self.now) }
     {
-        self.bytes.len() / 4
+        self.bytes.len() / T::WIDTH
     }
 
-    // 0 past the last.
-    pub fn get(&self, i: usize) -> u32
-        ensures { result ≡ slice_index (kinds_held self.now) i }
+    pub fn get(&self, i: usize) -> Option<T>
+        ensures some { IfSome result (λ n. T.number n ≡ slice_index (numbers_held T.WIDTH T.at self.now) i) }
+        ensures there { IsSome result ↔ (i < length (numbers_held T.WIDTH T.at self.now)) }
     {
-        let bytes = self.bytes;
-        if i < bytes.len() / 4 {
-            four_at(bytes, 4 * i)
+        if i < self.len() {
+            Some(T::at(self.bytes, T::WIDTH * i))
         } else {
-            0
+            None
         }
     }
 }
@@ -124,14 +177,12 @@ pub struct Job {
 
 #[derive(Clone, Copy)]
 pub enum Reply {
-    // turned away, by this number
-    No(u8),
+    // turned away
+    No(Refusal),
     Yes,
     Flow(FlowId),
     Job(Job),
     Nothing,
     State(Phase),
     Full,
-    // the memory holds the words of no house; it never goes out on a line
-    Damaged,
 }

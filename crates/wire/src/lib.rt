@@ -1,26 +1,57 @@
 // Calls and answers as framed bytes. No kind of call is built yet: each is turned away.
 #![tactic(auto)]
 
-ghost use Rattle.std.specs.Prelude.{◌≡◌, ◌+◌, ◌<◌, length, drop, Some, None, Ok, Err};
-ghost use Rattle.wire.specs.Frames.{four_at, tag_of, is_call, refusal_of, digit_of, bytes_of, small, is_in, frame_of, digits, is_time, Answered};
+pub mod bytes;
+pub mod hex;
 
+ghost use Rattle.std.specs.Prelude.{◌≡◌, drop, Some, None, Ok, Err};
+ghost use Rattle.wire.specs.Frames.{tag_of, is_call, refusal_of, number_of, frame_of, digits, is_time, Answered};
+
+use bytes::four_at;
+use hex::from_hex;
 use std::alloc::{AllocError, Global};
 
-// The answer to a line: its tag, and the number by which it is turned away.
+// Why a call is turned away.
 #[derive(Clone, Copy, PartialEq, Eq, Debug)]
-pub struct Refusal {
-    pub tag: u32,
-    pub number: u8,
+pub enum Refusal {
+    // it is no call, or a part of it is past its limit
+    BadCall,
+    // there is no such flow, or no such task of it
+    NotFound,
+    // the flow is over already, or is not over yet
+    WrongPhase,
+    // it is of another try, or of one that is not out
+    NotOut,
+    // there are as many flows as there may be, or all numbers were given out
+    NoMore,
+    // no time was told
+    NoTime,
+    // this kind of call is not built yet
+    NotBuilt,
 }
 
-// Four bytes as a number, the high byte first.
-fn four_at(frame: &[u8], at: usize) -> u32
-    requires { at + 3 < length frame.now }
-    ensures { result ≡ four_at frame.now at }
-{
-    let high = u32::from(frame[at]) * 16777216 + u32::from(frame[at + 1]) * 65536;
-    let low = u32::from(frame[at + 2]) * 256 + u32::from(frame[at + 3]);
-    high + low
+// The number that goes out.
+impl From<Refusal> for u8 {
+    ghost from_gives = { λ r n. n ≡ number_of r };
+
+    fn from(why: Refusal) -> u8 {
+        match why {
+            Refusal::BadCall => 1,
+            Refusal::NotFound => 2,
+            Refusal::WrongPhase => 3,
+            Refusal::NotOut => 5,
+            Refusal::NoMore => 8,
+            Refusal::NoTime => 10,
+            Refusal::NotBuilt => 12,
+        }
+    }
+}
+
+// The answer to a line: its tag, and why it is turned away.
+#[derive(Clone, Copy, PartialEq, Eq, Debug)]
+pub struct TurnedAway {
+    pub tag: u32,
+    pub why: Refusal,
 }
 
 fn is_call(frame: &[u8]) -> bool
@@ -33,102 +64,63 @@ fn is_call(frame: &[u8]) -> bool
 }
 
 // Answers a framed line.
-pub fn answer(frame: &[u8]) -> Refusal
+pub fn answer(frame: &[u8]) -> TurnedAway
     ensures tag { result.tag ≡ tag_of frame.now }
-    ensures number { result.number ≡ refusal_of frame.now }
+    ensures number { number_of result.why ≡ refusal_of frame.now }
 {
     let tag = if frame.len() >= 8 {
         four_at(frame, 4)
     } else {
         0
     };
-    let number = if is_call(frame) { 12 } else { 10 };
-    Refusal { tag, number }
+    let why = if is_call(frame) {
+        Refusal::NotBuilt
+    } else {
+        Refusal::NoTime
+    };
+    TurnedAway { tag, why }
 }
 
-// The value of a hexadecimal digit, in either case.
-pub fn digit(b: u8) -> Option<u8>
-    ensures is { result ≡ digit_of b }
-    ensures low { small result }
-{
-    match b {
-        b'0'..=b'9' => Some(b - b'0'),
-        b'a'..=b'f' => Some(b - b'a' + 10),
-        b'A'..=b'F' => Some(b - b'A' + 10),
-        _ => None,
-    }
-}
-
-// The bytes that a text in hexadecimal is; None where it is none.
-pub fn from_hex(heap: Global, text: &[u8]) -> Result<Option<Vec<u8>>, AllocError>
-    ensures { elim result [ Ok o ↦ elim o [ Some v ↦ bytes_of text.now ≡ Some v.items | None ↦ bytes_of text.now ≡ None ] | Err e ↦ Unit {0} ] }
-{
-    if text.len() % 2 != 0 {
-        return Ok(None);
-    }
-    let mut bytes = Vec::new(heap);
-    for i in 0..text.len() / 2 {
-        let Some(high) = digit(text[2 * i]) else {
-            return Ok(None);
-        };
-        let Some(low) = digit(text[2 * i + 1]) else {
-            return Ok(None);
-        };
-        bytes.push(high * 16 + low)?;
-    }
-    Ok(Some(bytes))
-}
-
-// The word in and a blank.
-fn is_in(line: &[u8]) -> bool
-    ensures { result ≡ is_in line.now }
-{
-    line.len() >= 3 && line[0] == b'i' && line[1] == b'n' && line[2] == b' '
-}
-
-// The frame of a line; None where it has none.
+// The frame of a line: behind the word in and a blank. None where it has none.
 fn frame_of(heap: Global, line: &[u8]) -> Result<Option<Vec<u8>>, AllocError>
     ensures { elim result [ Ok o ↦ elim o [ Some v ↦ frame_of line.now ≡ Some v.items | None ↦ frame_of line.now ≡ None ] | Err e ↦ Unit {0} ] }
 {
-    if line.len() < 3 || !is_in(line) {
-        return Ok(None);
+    match line {
+        [b'i', b'n', b' ', text @ ..] => from_hex(heap, text),
+        _ => Ok(None),
     }
-    from_hex(heap, &line[3..])
 }
 
 // Answers a line of a house's input: `in` and a frame in hexadecimal, or `time` and a number; all else is no call.
-pub fn answer_line(heap: Global, line: &[u8]) -> Result<Refusal, AllocError>
+pub fn answer_line(heap: Global, line: &[u8]) -> Result<TurnedAway, AllocError>
     ensures { elim result [ Ok a ↦ Answered (frame_of line.now) (is_time line.now) a | Err e ↦ Unit {0} ] }
 {
     if let Some(frame) = frame_of(heap, line)? {
         return Ok(answer(frame.as_slice()));
     }
-    let number = if is_time(line) { 12 } else { 10 };
-    Ok(Refusal { tag: 0, number })
+    let why = if is_time(line) {
+        Refusal::NotBuilt
+    } else {
+        Refusal::NoTime
+    };
+    Ok(TurnedAway { tag: 0, why })
 }
 
-// Nothing but digits from this place on.
-fn all_digits(line: &[u8], from: usize) -> bool
-    ensures { result ≡ digits (drop from line.now) }
+// Nothing but digits.
+fn all_digits(text: &[u8]) -> bool
+    ensures { result ≡ digits text.now }
 {
-    for i in from..line.len() {
-        if line[i] < b'0' || line[i] > b'9' {
-            return false;
-        }
-    }
-    true
+    text.iter().all(u8::is_ascii_digit)
 }
 
 // The word time, a blank, and 1 to 20 digits.
 fn is_time(line: &[u8]) -> bool
     ensures { result ≡ is_time line.now }
 {
-    line.len() >= 6
-        && line.len() <= 25
-        && line[0] == b't'
-        && line[1] == b'i'
-        && line[2] == b'm'
-        && line[3] == b'e'
-        && line[4] == b' '
-        && all_digits(line, 5)
+    match line {
+        [b't', b'i', b'm', b'e', b' ', text @ ..] => {
+            1 <= text.len() && text.len() <= 20 && all_digits(text)
+        }
+        _ => false,
+    }
 }

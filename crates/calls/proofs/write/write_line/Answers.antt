@@ -1,12 +1,12 @@
-use Rattle.std.proofs.Common.{◌≡◌, ◌+◌, ◌≤◌, length, sym, ap, ◌∙◌, arith}
-use Rattle.calls.specs.Replies.{goes_out, bytes_of}
+use Rattle.std.proofs.Common.{◌≡◌, ◌+◌, ◌≤◌, length, refl, sym, ap, ◌∙◌, arith}
+use lib.Seq.{sets}
+use Rattle.calls.specs.Replies.{bytes_of}
 use Rattle.calls.specs.Lines.{framed}
 use Rattle.calls.proofs.Puts.{wrote_some, line_put, line_size}
 use Rattle.calls.proofs.write.write_line.Goals as goal
 
 pub returns : goal.returns
 returns c =
-    let out = c.if-not-goes_out.ensures in
     let bs = bytes_of c.args.reply.now in
     let size : c.size-size.result ≡ length bs = c.size-size.ensures.is in
     let whole = line_size c.args.tag bs in
@@ -14,7 +14,7 @@ returns c =
     let count : c.size-size.result + 8 ≡ length (framed c.args.tag bs) = ap (λ n. n + 8) size ∙ sym whole in
     record {
       wrote =
-          wrote_some (goes_out c.args.reply.now) (framed c.args.tag bs) c.args.out.now c.put_reply.new.out (c.size-size.result + 8) (sym out) room
-          (line_put c.args.out.now c.put_four.new.out c.put_four-2.new.out c.put_reply.new.out bs c.size-size.result c.args.tag size c.put_four.ensures c.put_four-2.ensures c.put_reply.ensures) count;
-      room = λ h. out;
+          wrote_some (framed c.args.tag bs) c.args.out.now c.put_reply.new.out (c.size-size.result + 8) room
+          (line_put c.args.out.now c.put.new.out c.put-2.new.out c.put_reply.new.out bs c.size-size.result c.args.tag size (c.put.ensures ∙ ap (sets c.args.out.now 0) c.to_be_bytes.ensures) (c.put-2.ensures ∙ ap (sets c.put.new.out 4) c.to_be_bytes-2.ensures) c.put_reply.ensures) count;
+      room = λ h. refl;
     }
