@@ -71,7 +71,7 @@ fn read_often(
 ) -> anyhow::Result<usize> {
     let mut size = 0;
     for _ in 0..passes {
-        slate.len = 0;
+        slate.clear();
         match read(text, draft, slate) {
             Ok(found) => size = found,
             Err(_) => return Err(anyhow!("the text is no plan")),
@@ -84,11 +84,8 @@ fn read_often(
 fn print_often(heap: Global, passes: u64, slate: &Slate) -> anyhow::Result<usize> {
     let mut len = 0;
     for _ in 0..passes {
-        if slate.len > slate.words.len() {
-            return Err(anyhow!("the slate is damaged"));
-        }
         let mut out = Vec::new(heap);
-        if let Err(_) = print(&slate.words[0..slate.len], &mut out) {
+        if let Err(_) = print(slate.as_slice(), &mut out) {
             return Err(anyhow!("the plan was not printed"));
         }
         len = out.len();

@@ -1,7 +1,7 @@
 -- The units of an expression do what the tree is worth.
-use Rattle.std.proofs.Common.{◌≡◌, ℕ, zero, suc, ◌+◌, ◌-◌, ◌*◌, ◌%◌, ◌<◌, ◌≤◌, Bool, true, false, cond, eqb, ◌≢◌, ◌⊎◌, List, [], ◌∷◌, ◌++◌, length, get_or, drop, set, sym, refl, ap, ◌∙◌, subst, inl, inr, append_assoc, mod-eq_of_lt, add-one, arith, length-drop, get_or-set_other, get_or-set_same}
+use Rattle.std.proofs.Common.{◌≡◌, ℕ, zero, suc, ◌+◌, ◌-◌, ◌*◌, ◌%◌, ◌<◌, ◌≤◌, Bool, true, false, cond, eqb, ◌≢◌, ◌⊎◌, List, [], ◌∷◌, ◌++◌, length, get_or, take, drop, set, sym, refl, ap, ◌∙◌, subst, length-drop, inl, inr, append_assoc, mod-eq_of_lt, add-one, arith, get_or-set_other, get_or-set_same}
 use mir.Val.{bool_byte}
-use Rattle.std.proofs.lemmas.List.{drop_more}
+use Rattle.std.proofs.lemmas.List.{take_all}
 use Rattle.std.proofs.lemmas.Bool.{lt-ltb, le-ltb, ltb-true, and_parts}
 use Rattle.plans.specs.declared.eval.Join.{Join}
 use Rattle.plans.specs.declared.eval.Join.TheVariants.{Sum, Difference, Product, Under, Equal}
@@ -41,79 +41,78 @@ tops_set : (xs : List ℕ) (n v : ℕ) → 1 ≤ n → n ≤ length xs → tops 
 tops_set xs zero v h k = absurd (omega arith)
 tops_set xs (suc m) v h k = let e : m ≡ suc m - 1 = omega arith in subst (λ k. tops (set xs k v) (suc m) ≡ v ∷ tops xs k) e (tops_put xs m v (omega arith))
 
--- a unit
-unit_at : (ws : List ℕ) (pc : ℕ) → pc + 4 ≤ length ws → drop pc ws ≡ get_or ws pc 0 ∷ get_or ws (pc + 1) 0 ∷ get_or ws (pc + 2) 0 ∷ get_or ws (pc + 3) 0 ∷ drop (pc + 4) ws
-unit_at ws pc h =
-    let e2 : pc + 1 + 1 ≡ pc + 2 = omega arith in
-    let e3 : pc + 2 + 1 ≡ pc + 3 = omega arith in
-    let e4 : pc + 3 + 1 ≡ pc + 4 = omega arith in
-    let a = drop_more ws pc 0 (omega arith) in
-    let b : drop (pc + 1) ws ≡ get_or ws (pc + 1) 0 ∷ drop (pc + 2) ws = rw e2 at (drop_more ws (pc + 1) 0 (omega arith)) in
-    let c : drop (pc + 2) ws ≡ get_or ws (pc + 2) 0 ∷ drop (pc + 3) ws = rw e3 at (drop_more ws (pc + 2) 0 (omega arith)) in
-    let d : drop (pc + 3) ws ≡ get_or ws (pc + 3) 0 ∷ drop (pc + 4) ws = rw e4 at (drop_more ws (pc + 3) 0 (omega arith)) in
-    a ∙ ap (λ (l : List ℕ). get_or ws pc 0 ∷ l) (b ∙ ap (λ (l : List ℕ). get_or ws (pc + 1) 0 ∷ l) (c ∙ ap (λ (l : List ℕ). get_or ws (pc + 2) 0 ∷ l) d))
+-- the words behind a unit, as the code cuts them off
+abbrev rest : List ℕ → List ℕ
+rest ws = take (length ws - 4) (drop 4 ws)
 
-module _ (room : ℕ) (vs ws : List ℕ) where
-  abbrev pub running : ℕ → List ℕ → Out
-  running pc st = run_e room vs (drop pc ws) pc st
+pub no_unit : (room : ℕ) (vs ws : List ℕ) (pc : ℕ) (st : List ℕ) → length ws < 4 → run_e room vs ws pc st ≡ Bad
+unfolding run_e
+no_unit room vs [] pc st h = refl
+no_unit room vs (a ∷ []) pc st h = refl
+no_unit room vs (a ∷ b ∷ []) pc st h = refl
+no_unit room vs (a ∷ b ∷ c ∷ []) pc st h = refl
+no_unit room vs (a ∷ b ∷ c ∷ d ∷ l) pc st h = absurd (omega arith)
 
-  by_op : (o : Op) (pc : ℕ) (st : List ℕ) → pc + 4 ≤ length ws → o ≡ op_of (get_or ws pc 0) → running pc st ≡ or_stop o (Stop st pc) (onto (acts room vs o (get_or ws (pc + 1) 0) st) (λ s. running (pc + 4) s))
+pub too_short : (room : ℕ) (vs ws : List ℕ) (pc : ℕ) (st : List ℕ) → length ws < pc + 4 → run_e room vs (drop pc ws) pc st ≡ Bad
+too_short room vs ws pc st h = no_unit room vs (drop pc ws) pc st (let l = length-drop pc ws in omega arith)
+
+module _ (room : ℕ) (vs : List ℕ) (total : ℕ) where
+  abbrev pub running : List ℕ → List ℕ → Out
+  running ws st = run_e room vs ws (total - length ws) st
+
+  by_op : (o : Op) (ws st : List ℕ) → 4 ≤ length ws → length ws ≤ total → o ≡ op_of (get_or ws 0 0) → running ws st ≡ or_stop o (Stop st (total - length ws)) (onto (acts room vs o (get_or ws 1 0) st) (λ s. running (rest ws) s))
   unfolding run_e
-  by_op o pc st h e = ap (λ (l : List ℕ). run_e room vs l pc st) (unit_at ws pc h) ∙ ap (λ (x : Op). or_stop x (Stop st pc) (onto (acts room vs x (get_or ws (pc + 1) 0) st) (λ s. running (pc + 4) s))) (sym e)
+  by_op o [] st h t e = absurd (omega arith)
+  by_op o (a ∷ []) st h t e = absurd (omega arith)
+  by_op o (a ∷ b ∷ []) st h t e = absurd (omega arith)
+  by_op o (a ∷ b ∷ c ∷ []) st h t e = absurd (omega arith)
+  by_op o (a ∷ b ∷ c ∷ d ∷ ws) st h t e =
+      let same : take (length (a ∷ b ∷ c ∷ d ∷ ws) - 4) ws ≡ ws = take_all _ ws (omega arith) in
+      let pc : total - length (a ∷ b ∷ c ∷ d ∷ ws) + 4 ≡ total - length ws = omega arith in
+      rw (same, pc, e) refl
 
-  pub halts : (pc : ℕ) (st : List ℕ) → pc + 4 ≤ length ws → Halt ≡ op_of (get_or ws pc 0) → running pc st ≡ Stop st pc
+  pub halts : (ws st : List ℕ) → 4 ≤ length ws → length ws ≤ total → Halt ≡ op_of (get_or ws 0 0) → running ws st ≡ Stop st (total - length ws)
   unfolding or_stop
-  halts pc st h e = by_op Halt pc st h e
+  halts ws st h t e = by_op Halt ws st h t e
 
-  pub too_short : (pc : ℕ) (st : List ℕ) → length ws < pc + 4 → running pc st ≡ Bad
-  unfolding run_e
-  too_short pc st h = go (drop pc ws) (let l = length-drop pc ws in omega arith)
-    where
-      go : (l : List ℕ) → length l < 4 → run_e room vs l pc st ≡ Bad
-      go [] h = refl
-      go (a ∷ []) h = refl
-      go (a ∷ b ∷ []) h = refl
-      go (a ∷ b ∷ c ∷ []) h = refl
-      go (a ∷ b ∷ c ∷ d ∷ l) h = absurd (omega arith)
-
-  pub push_full : (pc n : ℕ) (xs : List ℕ) → pc + 4 ≤ length ws → Push ≡ op_of (get_or ws pc 0) → room ≤ n → running pc (tops xs n) ≡ Bad
+  pub push_full : (ws : List ℕ) (n : ℕ) (xs : List ℕ) → 4 ≤ length ws → length ws ≤ total → Push ≡ op_of (get_or ws 0 0) → room ≤ n → running ws (tops xs n) ≡ Bad
   unfolding or_stop acts pushed onto
-  push_full pc n xs h e k = by_op Push pc (tops xs n) h e ∙ (rw (length_tops xs n, le-ltb n room k) refl)
+  push_full ws n xs h t e k = by_op Push ws (tops xs n) h t e ∙ (rw (length_tops xs n, le-ltb n room k) refl)
 
-  pub push_turn_lem : (pc n : ℕ) (xs : List ℕ) → pc + 4 ≤ length ws → Push ≡ op_of (get_or ws pc 0) → n < room → length xs ≡ room → running (pc + 4) (tops (set xs n (get_or ws (pc + 1) 0)) (n + 1)) ≡ running pc (tops xs n)
+  pub push_turn_lem : (ws : List ℕ) (n : ℕ) (xs : List ℕ) → 4 ≤ length ws → length ws ≤ total → Push ≡ op_of (get_or ws 0 0) → n < room → length xs ≡ room → running (rest ws) (tops (set xs n (get_or ws 1 0)) (n + 1)) ≡ running ws (tops xs n)
   unfolding or_stop acts pushed onto
-  push_turn_lem pc n xs h e k l = ap (running (pc + 4)) (tops_more xs n _ (omega arith)) ∙ sym (by_op Push pc (tops xs n) h e ∙ (rw (length_tops xs n, lt-ltb n room k) refl))
+  push_turn_lem ws n xs h t e k l = ap (running (rest ws)) (tops_more xs n _ (omega arith)) ∙ sym (by_op Push ws (tops xs n) h t e ∙ (rw (length_tops xs n, lt-ltb n room k) refl))
 
-  pub load_bad : (pc n : ℕ) (xs : List ℕ) → pc + 4 ≤ length ws → Load ≡ op_of (get_or ws pc 0) → (length vs ≤ get_or ws (pc + 1) 0) ⊎ ((get_or ws (pc + 1) 0 < length vs) × (room ≤ n)) → running pc (tops xs n) ≡ Bad
+  pub load_bad : (ws : List ℕ) (n : ℕ) (xs : List ℕ) → 4 ≤ length ws → length ws ≤ total → Load ≡ op_of (get_or ws 0 0) → (length vs ≤ get_or ws 1 0) ⊎ ((get_or ws 1 0 < length vs) × (room ≤ n)) → running ws (tops xs n) ≡ Bad
   unfolding or_stop acts loaded pushed onto
-  load_bad pc n xs h e (inl k) = by_op Load pc (tops xs n) h e ∙ (rw (le-ltb (get_or ws (pc + 1) 0) (length vs) k) refl)
-  load_bad pc n xs h e (inr k) = by_op Load pc (tops xs n) h e ∙ (rw (lt-ltb (get_or ws (pc + 1) 0) (length vs) k.0, length_tops xs n, le-ltb n room k.1) refl)
+  load_bad ws n xs h t e (inl k) = by_op Load ws (tops xs n) h t e ∙ (rw (le-ltb (get_or ws 1 0) (length vs) k) refl)
+  load_bad ws n xs h t e (inr k) = by_op Load ws (tops xs n) h t e ∙ (rw (lt-ltb (get_or ws 1 0) (length vs) k.0, length_tops xs n, le-ltb n room k.1) refl)
 
-  pub load_turn : (pc n : ℕ) (xs : List ℕ) → pc + 4 ≤ length ws → Load ≡ op_of (get_or ws pc 0) → get_or ws (pc + 1) 0 < length vs → n < room → length xs ≡ room → running (pc + 4) (tops (set xs n (get_or vs (get_or ws (pc + 1) 0) 0)) (n + 1)) ≡ running pc (tops xs n)
+  pub load_turn : (ws : List ℕ) (n : ℕ) (xs : List ℕ) → 4 ≤ length ws → length ws ≤ total → Load ≡ op_of (get_or ws 0 0) → get_or ws 1 0 < length vs → n < room → length xs ≡ room → running (rest ws) (tops (set xs n (get_or vs (get_or ws 1 0) 0)) (n + 1)) ≡ running ws (tops xs n)
   unfolding or_stop acts loaded pushed onto
-  load_turn pc n xs h e v k l = ap (running (pc + 4)) (tops_more xs n _ (omega arith)) ∙ sym (by_op Load pc (tops xs n) h e ∙ (rw (lt-ltb (get_or ws (pc + 1) 0) (length vs) v, length_tops xs n, lt-ltb n room k) refl))
+  load_turn ws n xs h t e v k l = ap (running (rest ws)) (tops_more xs n _ (omega arith)) ∙ sym (by_op Load ws (tops xs n) h t e ∙ (rw (lt-ltb (get_or ws 1 0) (length vs) v, length_tops xs n, lt-ltb n room k) refl))
 
-  pub pair_bad : (j : Join) (pc n : ℕ) (xs : List ℕ) → pc + 4 ≤ length ws → Pair j ≡ op_of (get_or ws pc 0) → n < 2 → running pc (tops xs n) ≡ Bad
+  pub pair_bad : (j : Join) (ws : List ℕ) (n : ℕ) (xs : List ℕ) → 4 ≤ length ws → length ws ≤ total → Pair j ≡ op_of (get_or ws 0 0) → n < 2 → running ws (tops xs n) ≡ Bad
   unfolding or_stop acts paired onto
-  pair_bad j pc zero xs h e k = by_op (Pair j) pc [] h e
-  pair_bad j pc (suc zero) xs h e k = by_op (Pair j) pc _ h e
-  pair_bad j pc (suc (suc n)) xs h e k = absurd (omega arith)
+  pair_bad j ws zero xs h t e k = by_op (Pair j) ws [] h t e
+  pair_bad j ws (suc zero) xs h t e k = by_op (Pair j) ws _ h t e
+  pair_bad j ws (suc (suc n)) xs h t e k = absurd (omega arith)
 
-  pub pair_turn : (j : Join) (pc n r : ℕ) (xs : List ℕ) → pc + 4 ≤ length ws → Pair j ≡ op_of (get_or ws pc 0) → 2 ≤ n → n ≤ length xs → r ≡ join_of j (get_or xs (n - 1 - 1) 0) (get_or xs (n - 1) 0) → running (pc + 4) (tops (set xs (n - 1 - 1) r) (n - 1)) ≡ running pc (tops xs n)
+  pub pair_turn : (j : Join) (ws : List ℕ) (n r : ℕ) (xs : List ℕ) → 4 ≤ length ws → length ws ≤ total → Pair j ≡ op_of (get_or ws 0 0) → 2 ≤ n → n ≤ length xs → r ≡ join_of j (get_or xs (n - 1 - 1) 0) (get_or xs (n - 1) 0) → running (rest ws) (tops (set xs (n - 1 - 1) r) (n - 1)) ≡ running ws (tops xs n)
   unfolding or_stop acts paired onto
-  pair_turn j pc n r xs h e two lim is =
-      let t : tops xs n ≡ get_or xs (n - 1) 0 ∷ get_or xs (n - 1 - 1) 0 ∷ tops xs (n - 1 - 1) = tops_one xs n (omega arith) ∙ ap (λ (l : List ℕ). get_or xs (n - 1) 0 ∷ l) (tops_one xs (n - 1) (omega arith)) in
-      ap (running (pc + 4)) (tops_set xs (n - 1) r (omega arith) (omega arith) ∙ ap (λ (x : ℕ). x ∷ tops xs (n - 1 - 1)) is) ∙ sym (ap (running pc) t ∙ by_op (Pair j) pc (get_or xs (n - 1) 0 ∷ get_or xs (n - 1 - 1) 0 ∷ tops xs (n - 1 - 1)) h e)
+  pair_turn j ws n r xs h t e two lim is =
+      let both : tops xs n ≡ get_or xs (n - 1) 0 ∷ get_or xs (n - 1 - 1) 0 ∷ tops xs (n - 1 - 1) = tops_one xs n (omega arith) ∙ ap (λ (l : List ℕ). get_or xs (n - 1) 0 ∷ l) (tops_one xs (n - 1) (omega arith)) in
+      ap (running (rest ws)) (tops_set xs (n - 1) r (omega arith) (omega arith) ∙ ap (λ (x : ℕ). x ∷ tops xs (n - 1 - 1)) is) ∙ sym (ap (running ws) both ∙ by_op (Pair j) ws (get_or xs (n - 1) 0 ∷ get_or xs (n - 1 - 1) 0 ∷ tops xs (n - 1 - 1)) h t e)
 
-  pub negate_bad : (pc n : ℕ) (xs : List ℕ) → pc + 4 ≤ length ws → Negate ≡ op_of (get_or ws pc 0) → n < 1 → running pc (tops xs n) ≡ Bad
+  pub negate_bad : (ws : List ℕ) (n : ℕ) (xs : List ℕ) → 4 ≤ length ws → length ws ≤ total → Negate ≡ op_of (get_or ws 0 0) → n < 1 → running ws (tops xs n) ≡ Bad
   unfolding or_stop acts negated onto
-  negate_bad pc zero xs h e k = by_op Negate pc [] h e
-  negate_bad pc (suc n) xs h e k = absurd (omega arith)
+  negate_bad ws zero xs h t e k = by_op Negate ws [] h t e
+  negate_bad ws (suc n) xs h t e k = absurd (omega arith)
 
-  pub negate_turn : (pc n r : ℕ) (xs : List ℕ) → pc + 4 ≤ length ws → Negate ≡ op_of (get_or ws pc 0) → 1 ≤ n → n ≤ length xs → r ≡ cond (eqb (get_or xs (n - 1) 0) 0) 1 0 → running (pc + 4) (tops (set xs (n - 1) r) n) ≡ running pc (tops xs n)
+  pub negate_turn : (ws : List ℕ) (n r : ℕ) (xs : List ℕ) → 4 ≤ length ws → length ws ≤ total → Negate ≡ op_of (get_or ws 0 0) → 1 ≤ n → n ≤ length xs → r ≡ cond (eqb (get_or xs (n - 1) 0) 0) 1 0 → running (rest ws) (tops (set xs (n - 1) r) n) ≡ running ws (tops xs n)
   unfolding or_stop acts negated onto
-  negate_turn pc n r xs h e one lim is =
-      ap (running (pc + 4)) (tops_set xs n r one lim ∙ ap (λ (x : ℕ). x ∷ tops xs (n - 1)) is) ∙ sym (ap (running pc) (tops_one xs n one) ∙ by_op Negate pc (get_or xs (n - 1) 0 ∷ tops xs (n - 1)) h e)
+  negate_turn ws n r xs h t e one lim is =
+      ap (running (rest ws)) (tops_set xs n r one lim ∙ ap (λ (x : ℕ). x ∷ tops xs (n - 1)) is) ∙ sym (ap (running ws) (tops_one xs n one) ∙ by_op Negate ws (get_or xs (n - 1) 0 ∷ tops xs (n - 1)) h t e)
 
 -- the tree
 less_by_is : (k m : ℕ) → less_by k m ≡ m - k

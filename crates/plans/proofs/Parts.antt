@@ -4,7 +4,7 @@ use Rattle.std.proofs.lemmas.Bool.Decides.{nat_tests}
 use Rattle.plans.specs.declared.link.LinkError.{LinkError}
 use Rattle.plans.specs.declared.link.LinkError.TheVariants.{NoRoom, Damaged}
 use Rattle.plans.specs.Plan.{Expr, Stmt, Set, Do, Sleep, Hear, If, While, Guard, Return, FailNow, Block, done, then, expr_size, stmt_size, size_of}
-use Rattle.plans.specs.Flat.{Way, Nowhere, To, way_word, code_of, draft_stmt, draft_of, under, go_on, lay_stmt, lay, laid, is_simple}
+use Rattle.plans.specs.Flat.{Way, Nowhere, To, code_of, draft_stmt, draft_of, under, go_on, lay_stmt, lay, laid, is_simple}
 use Rattle.plans.specs.Sheet.{Wrote, Step, Written, WrittenTo}
 use Rattle.plans.proofs.Written.{wrote_append, wrote_room}
 use Rattle.plans.proofs.Drafts.{head_of, front_of, rest_of, code_length, draft_length, stmt_length, lay_length, lay_stmt_length}
@@ -148,10 +148,6 @@ pub guard_whole : (ds : List ℕ) (at : ℕ) (x y : Block) (rest : List ℕ) (ne
 unfolding lay_stmt
 guard_whole ds at x y rest next w u d p = rw (p.other_is, add-one u, add-one at) refl
 
-pub way_to : (a : ℕ) → a + 1 ≡ way_word (To a)
-unfolding way_word
-way_to a = add-one a
-
 -- parts
 pub part_big : (b : Block) (ds : List ℕ) (at : ℕ) (rest : List ℕ) → drop at ds ≡ draft_of b ++ rest → at + 4 ≤ length ds
 unfolding draft_of
@@ -198,14 +194,14 @@ steps ds at s b rest small d =
     let t = tail_length s in
     record { some = omega (arith, h.third); few = omega (arith, big); inside = omega (arith, big); after = after; size = h.third }
 
-pub part_linked : {S : Type 0} (wrote : S → ℕ → S → Type 0) (room : S → ℕ) → (ds : List ℕ) (at : ℕ) (s : Stmt) (b : Block) (rest : List ℕ) (next n nx un : ℕ) (w : Way) (a m c : S) (r : Result ℕ LinkError) →
-    Steps ds at s b rest → nx ≡ go_on b (at + 4 * get_or ds (at + 2) 0) next → un ≡ under b n →
-    Wrote (Step wrote room) (lay_stmt at s nx w un (n + 1)) a m →
+pub part_linked : {S : Type 0} (wrote : S → ℕ → S → Type 0) (room : S → ℕ) → (ds : List ℕ) (at : ℕ) (s : Stmt) (b : Block) (rest : List ℕ) (next n nx un : ℕ) (w wx : Way) (a m c : S) (r : Result ℕ LinkError) →
+    Steps ds at s b rest → nx ≡ go_on b (at + 4 * get_or ds (at + 2) 0) next → wx ≡ w → un ≡ under b n →
+    Wrote (Step wrote room) (lay_stmt at s nx wx un (n + 1)) a m →
     WrittenTo wrote room r m (lay (at + 4 * get_or ds (at + 2) 0) b next w n) (at + 4 * get_or ds (at + 2) 0 + 4 * size_of b) c →
     WrittenTo wrote room r a (lay at (then s b) next w n) (at + 4 * size_of (then s b)) c
 unfolding lay size_of
-part_linked {S} wrote room ds at s b rest next n nx un w a m c r p en eu h k =
-    let h' : Wrote (Step wrote room) (lay_stmt at s (go_on b (at + 4 * stmt_size s) next) w (under b n) (suc n)) a m = subst (λ (l : List ℕ). Wrote (Step wrote room) l a m) (rw (en, eu, p.size, add-one n) refl) h in
+part_linked {S} wrote room ds at s b rest next n nx un w wx a m c r p en ew eu h k =
+    let h' : Wrote (Step wrote room) (lay_stmt at s (go_on b (at + 4 * stmt_size s) next) w (under b n) (suc n)) a m = subst (λ (l : List ℕ). Wrote (Step wrote room) l a m) (rw (en, ew, eu, p.size, add-one n) refl) h in
     let ea : at + 4 * get_or ds (at + 2) 0 ≡ at + 4 * stmt_size s = omega (arith, p.size) in
     let k' : WrittenTo wrote room r m (lay (at + 4 * stmt_size s) b next w n) (at + 4 * stmt_size s + 4 * size_of b) c = subst (λ (q : ℕ). WrittenTo wrote room r m (lay q b next w n) (q + 4 * size_of b) c) ea k in
     go r k' h'
@@ -219,11 +215,11 @@ part_linked {S} wrote room ds at s b rest next n nx un w a m c r p en eu h k =
         omega arith
     go (Err Damaged) k h = k
 
-pub part_refused : {S : Type 0} (wrote : S → ℕ → S → Type 0) (room : S → ℕ) (ds : List ℕ) (at : ℕ) (s : Stmt) (b : Block) (rest : List ℕ) (next n nx un : ℕ) (w : Way) (a m c : S) (e : LinkError) →
-    Written wrote room (Err e) a (lay_stmt at s nx w un (n + 1)) m → WrittenTo wrote room (Err e) a (lay at (then s b) next w n) (at + 4 * size_of (then s b)) c
+pub part_refused : {S : Type 0} (wrote : S → ℕ → S → Type 0) (room : S → ℕ) (ds : List ℕ) (at : ℕ) (s : Stmt) (b : Block) (rest : List ℕ) (next n nx un : ℕ) (w wx : Way) (a m c : S) (e : LinkError) →
+    Written wrote room (Err e) a (lay_stmt at s nx wx un (n + 1)) m → WrittenTo wrote room (Err e) a (lay at (then s b) next w n) (at + 4 * size_of (then s b)) c
 unfolding lay size_of
-part_refused wrote room ds at s b rest next n nx un w a m c e h =
-    let l = lay_stmt_length s at nx w un (n + 1) in
+part_refused wrote room ds at s b rest next n nx un w wx a m c e h =
+    let l = lay_stmt_length s at nx wx un (n + 1) in
     let l' = lay_length (then s b) at next w n in
     to_whole wrote room _ _ a c c e (written_short wrote room _ _ a m c e (omega arith) h)
 
@@ -299,10 +295,6 @@ pub not_damaged : (ds : List ℕ) (at : ℕ) (b : Block) (rest : List ℕ) → l
 not_damaged ds at b rest small ne d f = by_statement ds at rest (λ (z : Block). ⊥) b ne d (λ s x i. let p = steps ds at s x rest small i in f p.some p.few p.inside)
 
 -- a whole plan
-pub no_way : 0 ≡ way_word Nowhere
-unfolding way_word
-no_way = refl
-
 pub laid_is : {S : Type 0} (wrote : S → ℕ → S → Type 0) (room : S → ℕ) (b : Block) (ds : List ℕ) → ds ≡ draft_of b → (a c : S) → Wrote (Step wrote room) (lay 0 b (length ds - 3) Nowhere 0) a c → Wrote (Step wrote room) (laid b) a c
 unfolding laid
 laid_is {S} wrote room b ds d a c h = let l : length ds ≡ 4 * size_of b = ap length d ∙ draft_length b in subst (λ (n : ℕ). Wrote (Step wrote room) (lay 0 b (n - 3) Nowhere 0) a c) l h

@@ -33,3 +33,8 @@ noted_all wrote room items len f (more {s} {t} {u} {w} {ws} x h) =
     let k = noted_all wrote room items len f h in
     let one : take (len t) (items t) ≡ take (len s) (items s) ++ (w ∷ []) = ap (λ (m : ℕ). take m (items t)) n.count ∙ (ap (take (len s + 1)) n.holds ∙ take_more_set (items s) (len s) w n.fits) in
     (k.0 ∙ (let c = n.count in omega arith), k.1 ∙ (ap (λ (l : List ℕ). l ++ ws) one ∙ append_assoc (take (len s) (items s)) (w ∷ []) ws), k.2 ∙ (ap length n.holds ∙ length-set (items s) (len s) w))
+
+-- the same of memory that grows
+pub appended_all : {S : Type 0} (room : S → ℕ) (items : S → List ℕ) {ws : List ℕ} {s t : S} → Wrote (Step (λ s w t. items t ≡ items s ++ (w ∷ [])) room) ws s t → items t ≡ items s ++ ws
+appended_all room items (nothing {s}) = sym (append-nil (items s))
+appended_all room items (more {s} {t} {u} {w} {ws} x h) = appended_all room items h ∙ (ap (λ (l : List ℕ). l ++ ws) x.0 ∙ append_assoc (items s) (w ∷ []) ws)

@@ -5,7 +5,7 @@
 -- the unit that ends a part has there the end of the plan, to which control comes only in the plan's own last unit.
 -- The expressions of a statement follow its head, in postfix order; the first unit that is of no expression ends them.
 -- Assumes nothing.
-use Rattle.std.specs.Prelude.{◌≡◌, ℕ, suc, ◌+◌, ◌-◌, ◌*◌, Bool, true, false, cond, ◌||◌, List, [], ◌∷◌, ◌++◌, length, take, replicate, ◌==◌}
+use Rattle.std.specs.Prelude.{◌≡◌, ℕ, suc, ◌+◌, ◌-◌, ◌*◌, Bool, true, false, cond, ◌||◌, List, [], ◌∷◌, ◌++◌, length, take, replicate, Option, Some, None, ◌==◌}
 use Rattle.plans.specs.Plan.{Name, Expr, Lit, Var, Plus, Minus, Times, Less, Same, Not, Stmt, Set, Do, Sleep, Hear, If, While, Guard, Return, FailNow, Block, done, then, expr_size, stmt_size, size_of}
 
 -- where a failure goes: nowhere, so that the flow has failed, or to the address of a guard's other part
@@ -16,6 +16,11 @@ pub data Way : Type 0 where
 unfoldable pub way_word : Way → ℕ
 way_word Nowhere = 0
 way_word (To a) = suc a
+
+-- the same, as the code has it
+abbrev pub way_of : Option ℕ → Way
+way_of None = Nowhere
+way_of (Some a) = To a
 
 -- an entry: a kind, and how deep control is there
 abbrev pub entry : (kind deep : ℕ) → ℕ

@@ -3,3 +3,4 @@ pub mod Plan
 pub mod Flat
 pub mod Noted
 pub mod Sheet
+pub mod Slate

@@ -3,8 +3,12 @@ ghost use Rattle.std.specs.Prelude.{◌≡◌, ℕ, ◌+◌, ◌*◌, ◌<◌, �
 ghost use Rattle.plans.specs.Plan.{Expr, expr_size, value as worth};
 ghost use Rattle.plans.specs.Eval.{op_of, join_of, run_e, Ran, Within, one_of, Evaled, Meant, Worth, look};
 
+use crate::kinds;
+use std::error::Error;
+use std::fmt;
+
 // What two values are joined to.
-#[derive(Clone, Copy)]
+#[derive(Clone, Copy, Debug, PartialEq, Eq)]
 pub enum Join {
     Sum,
     Difference,
@@ -14,7 +18,7 @@ pub enum Join {
 }
 
 // What a unit of an expression says to do; every other unit ends it.
-#[derive(Clone, Copy)]
+#[derive(Clone, Copy, Debug, PartialEq, Eq)]
 pub enum Op {
     Push,
     Load,
@@ -24,35 +28,47 @@ pub enum Op {
 }
 
 // How many values are on the stack, and where the expressions ended.
-#[derive(Clone, Copy)]
+#[derive(Clone, Copy, Debug, PartialEq, Eq)]
 pub struct Stopped {
     pub count: usize,
     pub end: usize,
 }
 
-#[derive(Clone, Copy)]
+// An expression's value, and where it ended.
+#[derive(Clone, Copy, Debug, PartialEq, Eq)]
 pub struct Valued {
     pub value: u64,
     pub end: usize,
 }
 
 // Words that are no plan.
-#[derive(Clone, Copy)]
+#[derive(Clone, Copy, Debug, PartialEq, Eq)]
 pub struct Damaged;
 
-pub fn op_at(word: u64) -> Op
-    ensures { result ≡ op_of word }
-{
-    match word {
-        16 => Op::Push,
-        17 => Op::Load,
-        18 => Op::Pair(Join::Sum),
-        19 => Op::Pair(Join::Difference),
-        20 => Op::Pair(Join::Product),
-        21 => Op::Pair(Join::Under),
-        22 => Op::Pair(Join::Equal),
-        23 => Op::Negate,
-        _ => Op::Halt,
+impl fmt::Display for Damaged {
+    fn fmt<W: fmt::Write>(&self, f: &mut fmt::Formatter<W>) -> fmt::Result {
+        f.write_str("the words are no plan")
+    }
+}
+
+impl Error for Damaged {}
+
+// What a unit's first word says.
+impl From<u64> for Op {
+    ghost from_gives = { λ word op. op ≡ op_of word };
+
+    fn from(word: u64) -> Op {
+        match word {
+            kinds::NUMBER => Op::Push,
+            kinds::VARIABLE => Op::Load,
+            kinds::PLUS => Op::Pair(Join::Sum),
+            kinds::MINUS => Op::Pair(Join::Difference),
+            kinds::TIMES => Op::Pair(Join::Product),
+            kinds::LESS => Op::Pair(Join::Under),
+            kinds::SAME => Op::Pair(Join::Equal),
+            kinds::NOT => Op::Negate,
+            _ => Op::Halt,
+        }
     }
 }
 
@@ -70,33 +86,28 @@ pub fn joined(how: Join, a: u64, b: u64) -> u64
 }
 
 // Does what the units from `at` on say, up to the first that is of no expression.
+// The stack is a slice with a count, and no `Vec`: the caller lends its memory, since nothing is allocated here.
 pub fn run(code: &[u64], at: usize, vars: &[u64], stack: &mut [u64]) -> Result<Stopped, Damaged>
     ensures within { Within result (length stack.old) }
     ensures ran { Ran result (run_e (length stack.old) vars.now (drop at code.now) at []) stack.new }
 {
-    if at > code.len() {
-        return Err(Damaged);
-    }
-    let mut pc = at;
+    let mut left = code.get(at..).ok_or(Damaged)?;
     let mut count = 0;
-    while code.len() - pc >= 4 {
-        let value = code[pc + 1];
-        match op_at(code[pc]) {
+    while let [kind, value, _, _, rest @ ..] = left {
+        match Op::from(*kind) {
             Op::Push => {
                 if count >= stack.len() {
                     return Err(Damaged);
                 }
-                stack[count] = value;
+                stack[count] = *value;
                 count += 1;
-                pc += 4;
             }
             Op::Load => {
-                if value >= vars.len() as u64 || count >= stack.len() {
+                if *value >= vars.len() as u64 || count >= stack.len() {
                     return Err(Damaged);
                 }
-                stack[count] = vars[value as usize];
+                stack[count] = vars[*value as usize];
                 count += 1;
-                pc += 4;
             }
             Op::Pair(how) => {
                 if count < 2 {
@@ -104,17 +115,19 @@ pub fn run(code: &[u64], at: usize, vars: &[u64], stack: &mut [u64]) -> Result<S
                 }
                 count -= 1;
                 stack[count - 1] = joined(how, stack[count - 1], stack[count]);
-                pc += 4;
             }
             Op::Negate => {
                 if count < 1 {
                     return Err(Damaged);
                 }
                 stack[count - 1] = u64::from(stack[count - 1] == 0);
-                pc += 4;
             }
-            Op::Halt => return Ok(Stopped { count, end: pc }),
+            Op::Halt => {
+                let end = code.len() - left.len();
+                return Ok(Stopped { count, end });
+            }
         }
+        left = rest;
     }
     Err(Damaged)
 }

@@ -1,4 +1,5 @@
 // The kinds of units in the flat form: an entry is a kind, and 32 times how deep control is there.
+// Numbers and no enum: they are the lasting layout, and a unit's first word may hold any other.
 pub const SET: u64 = 1;
 
 pub const DO: u64 = 2;

@@ -1,13 +1,22 @@
 // Where the words of a plan are written, one after the other.
-ghost use Rattle.std.specs.Prelude.{◌≡◌, ℕ, ◌-◌, IfOk, vec_len};
+ghost use Rattle.std.specs.Prelude.{◌≡◌, ℕ, ◌+◌, ◌∷◌, [], ◌++◌, length, IfOk};
 ghost use Rattle.plans.specs.Sheet.{Put};
-ghost use Rattle.plans.specs.Noted.{Noted};
 
 use std::alloc::{AllocError, Global};
+use std::error::Error;
+use std::fmt;
 
 // There is no room for a word more.
-#[derive(Clone, Copy)]
+#[derive(Clone, Copy, Debug, PartialEq, Eq)]
 pub struct Full;
+
+impl fmt::Display for Full {
+    fn fmt<W: fmt::Write>(&self, f: &mut fmt::Formatter<W>) -> fmt::Result {
+        f.write_str("the sheet is full")
+    }
+}
+
+impl Error for Full {}
 
 // Whoever takes words says by `wrote` what one word more makes of it: plain memory that it holds the word,
 // lasting memory that the word was stored.
@@ -21,34 +30,51 @@ pub trait Sheet {
         ensures { Put wrote room result self.old word self.new };
 }
 
-// Plain memory: how many of its words are written.
-#[derive(Drop)]
+// Plain memory with room for so many words.
+#[derive(Debug, Drop)]
 pub struct Slate {
-    pub words: Vec<u64>,
-    pub len: usize,
+    words: Vec<u64>,
 }
 
 impl Slate {
-    // Room for so many words.
+    ghost use Rattle.plans.specs.Slate.{words_of, room_of};
+
     pub fn new(heap: Global, room: usize) -> Result<Slate, AllocError>
-        ensures { IfOk result (λ s. (s.len ≡ 0) × (vec_len s.words ≡ room)) }
+        ensures empty { IfOk result (λ s. words_of s ≡ []) }
+        ensures room { IfOk result (λ s. room_of s ≡ room) }
     {
-        let words = vec![in heap; 0u64; room]?;
-        Ok(Slate { words, len: 0 })
+        let words = Vec::with_capacity(heap, room)?;
+        Ok(Slate { words })
+    }
+
+    // The words that are written.
+    pub fn as_slice(&self) -> &[u64]
+        ensures { result.now ≡ words_of self.now }
+    {
+        &self.words
+    }
+
+    pub fn clear(&mut self)
+        ensures empty { words_of self.new ≡ [] }
+        ensures room { room_of self.new ≡ room_of self.old + length (words_of self.old) }
+    {
+        self.words.clear();
     }
 }
 
 impl Sheet for Slate {
-    ghost wrote = { λ s w t. Noted s.words.items s.len w t.words.items t.len };
+    ghost use Rattle.plans.specs.Slate.{words_of, room_of};
 
-    ghost room = { λ s. vec_len s.words - s.len };
+    ghost wrote = { λ s w t. words_of t ≡ words_of s ++ w ∷ [] };
 
+    ghost room = { room_of };
+
+    // There is room for the word, so that nothing is allocated.
     fn put(&mut self, word: u64) -> Result<(), Full> {
-        if self.len >= self.words.len() {
+        if self.words.len() == self.words.capacity() {
             return Err(Full);
         }
-        self.words[self.len] = word;
-        self.len += 1;
+        self.words.push_reserved(word);
         Ok(())
     }
 }

@@ -145,18 +145,9 @@ fn case(heap: Global, name: &str, text: &[u8]) -> anyhow::Result<String> {
     let Ok(_) = read(text, &mut draft, &mut slate) else {
         return Err(anyhow!("no plan"));
     };
-    if slate.len > slate.words.len() {
-        return Err(anyhow!("a slate is damaged"));
-    }
     let mut vars = [0; 64];
     let mut stack = vec![in heap; 0u64; 4096]?;
-    carried(
-        heap,
-        name,
-        &slate.words[0..slate.len],
-        &mut vars,
-        &mut stack,
-    )
+    carried(heap, name, slate.as_slice(), &mut vars, &mut stack)
 }
 
 fn answers(rt: &HostRuntime) -> anyhow::Result<()> {

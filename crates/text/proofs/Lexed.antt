@@ -45,7 +45,7 @@ word_over : (w rest : List ℕ) → apart rest ≡ true → lex (word w) rest �
 word_over w [] a = sym (word_end w)
 word_over w (b ∷ bs) a = let h : word_byte b ≡ false = grind (arith, nat_tests) in sym (word_stop w b bs h)
 
-lex_word : (u w rest : List ℕ) → every word_byte w ≡ true → apart rest ≡ true → lex (word u) (w ++ rest) ≡ both (ended (u ++ w)) (lex (word []) rest)
+pub lex_word : (u w rest : List ℕ) → every word_byte w ≡ true → apart rest ≡ true → lex (word u) (w ++ rest) ≡ both (ended (u ++ w)) (lex (word []) rest)
 unfolding lex gives goes every
 lex_word u [] rest h a = rw append-nil (word_over u rest a)
 lex_word u (b ∷ bs) rest h a =

@@ -1,10 +1,13 @@
 -- The turns of the loops that read a text's bytes. Assumes nothing.
-use Rattle.std.proofs.Common.{◌≡◌, ℕ, suc, ◌+◌, ◌-◌, ◌<◌, ◌≤◌, Bool, true, false, cond, not, eqb, List, [], ◌∷◌, ◌++◌, length, get_or, take, drop, sym, refl, ap, ◌∙◌, le_refl, add-one, arith, length-drop, drop-cons}
+use Rattle.std.proofs.Common.{◌≡◌, ℕ, zero, suc, ◌+◌, ◌-◌, ◌<◌, ◌≤◌, Bool, true, false, cond, not, eqb, List, [], ◌∷◌, length, get_or, take, drop, Some, None, Option, sym, refl, ap, ◌∙◌, subst, le_refl, add-one, arith, length-drop, drop-cons}
 use Rattle.std.proofs.lemmas.Bool.Decides.{nat_tests}
-use Rattle.std.proofs.lemmas.List.{drop_all, take_more, get_or-drop}
+use Rattle.std.proofs.lemmas.List.{drop_all, drop-drop, take_all, take-append-drop}
+use Rattle.std.specs.List.{AllWithin, HoldsAt, slice_range}
+use Rattle.std.specs.Option.{MatchOption, unwrap_or}
+use Rattle.plans.specs.Plan.{every}
 use Rattle.text.specs.Lexer.{both, ended, word_byte, sign_at, word, remark, goes, gives, lex, tokens_in}
 use Rattle.text.specs.Gaps.{goes_on, in_remark, mode_of}
-use Rattle.text.proofs.Lexed.{both_nil, word_stop, word_end}
+use Rattle.text.proofs.Lexed.{both_nil, apart, lex_word}
 
 gap_word : (b : ℕ) → goes_on false b ≡ true → word_byte b ≡ false
 gap_word b h = grind (arith, nat_tests)
@@ -35,29 +38,31 @@ pub gap_end : (text : List ℕ) (pos : ℕ) (r : Bool) → length text ≤ pos �
 gap_end text pos r l = rw (drop_all pos text l) (sym (mode_end r))
 
 -- words
-word_byte_lem : (w : List ℕ) (b : ℕ) (bs : List ℕ) → word_byte b ≡ true → lex (word (w ++ (b ∷ []))) bs ≡ lex (word w) (b ∷ bs)
-unfolding lex gives goes
-word_byte_lem w b bs h = rw (h, both_nil) refl
+every_within : (d : List ℕ) (n : ℕ) → AllWithin (λ b. word_byte b ≡ true) d 0 n → n ≤ length d → every word_byte (take n d) ≡ true
+unfolding every
+every_within d zero a l = refl
+every_within [] (suc n) a l = absurd (omega arith)
+every_within (x ∷ xs) (suc n) a l =
+    let first : word_byte x ≡ true = a 0 0 (omega arith) (omega arith) in
+    rw (first, every_within xs n (λ k d lo hi. a (suc k) d (omega arith) (omega arith)) (omega arith)) refl
 
-pub word_turn : (text : List ℕ) (from pos : ℕ) → from ≤ pos → pos < length text → word_byte (get_or text pos 0) ≡ true →
-    lex (word (take (pos + 1 - from) (drop from text))) (drop (pos + 1) text) ≡ lex (word (take (pos - from) (drop from text))) (drop pos text)
-word_turn text from pos f l h =
-    let e : pos + 1 - from ≡ (pos - from) + 1 = omega arith in
-    let i : from + (pos - from) ≡ pos = omega arith in
-    let g : get_or (drop from text) (pos - from) 0 ≡ get_or text pos 0 = get_or-drop from text (pos - from) 0 ∙ ap (λ (k : ℕ). get_or text k 0) i in
-    let m : take (pos + 1 - from) (drop from text) ≡ take (pos - from) (drop from text) ++ (get_or text pos 0 ∷ []) =
-    ap (λ (k : ℕ). take k (drop from text)) e ∙ (take_more (drop from text) (pos - from) 0 (simp length-drop (omega arith)) ∙ ap (λ (k : ℕ). take (pos - from) (drop from text) ++ (k ∷ [])) g) in
-    rw (m, drop-cons text pos 0 l, add-one) (word_byte_lem (take (pos - from) (drop from text)) (get_or text pos 0) (drop (suc pos) text) h)
+word_front : (d : List ℕ) (n : ℕ) → AllWithin (λ b. word_byte b ≡ true) d 0 n → n ≤ length d → apart (drop n d) ≡ true → both (ended (take n d)) (tokens_in (drop n d)) ≡ tokens_in d
+word_front d n a l h = sym (lex_word [] (take n d) (drop n d) (every_within d n a l) h) ∙ ap tokens_in (take-append-drop n d)
 
-pub word_stops : (text w : List ℕ) (pos : ℕ) → pos < length text → word_byte (get_or text pos 0) ≡ false → both (ended w) (tokens_in (drop pos text)) ≡ lex (word w) (drop pos text)
-word_stops text w pos l h = rw (drop-cons text pos 0 l) (word_stop w (get_or text pos 0) (drop (suc pos) text) h)
+-- the word that begins at a place ends before the first byte that is part of none
+pub word_taken : (text : List ℕ) (from : ℕ) (r : Option ℕ) (n : ℕ) → from ≤ length text →
+    MatchOption r (AllWithin (λ b. word_byte b ≡ true) (take (length text - from) (drop from text)) 0 (length (take (length text - from) (drop from text))))
+    (λ i. (i < length (take (length text - from) (drop from text))) × HoldsAt (λ b. word_byte b ≡ false) (take (length text - from) (drop from text)) i × AllWithin (λ b. word_byte b ≡ true) (take (length text - from) (drop from text)) 0 i) →
+    n ≡ unwrap_or r (length (take (length text - from) (drop from text))) →
+    both (ended (slice_range text from (from + n))) (tokens_in (drop (from + n) text)) ≡ tokens_in (drop from text)
+word_taken text from r n l m e =
+    let whole : take (length text - from) (drop from text) ≡ drop from text = take_all (length text - from) (drop from text) (simp length-drop (omega arith)) in
+    let size : from + n - from ≡ n = omega arith in
+    rw (size, sym (drop-drop n from text)) (go r (e ∙ ap (λ (d : List ℕ). unwrap_or r (length d)) whole) (subst (λ (d : List ℕ). Found r d) whole m))
+  where
+    Found : Option ℕ → List ℕ → Type 0
+    Found r d = MatchOption r (AllWithin (λ b. word_byte b ≡ true) d 0 (length d)) (λ i. (i < length d) × HoldsAt (λ b. word_byte b ≡ false) d i × AllWithin (λ b. word_byte b ≡ true) d 0 i)
 
-pub word_ends : (text w : List ℕ) (pos : ℕ) → length text ≤ pos → both (ended w) (tokens_in (drop pos text)) ≡ lex (word w) (drop pos text)
-word_ends text w pos l = rw (drop_all pos text l) (word_end w)
-
--- the first byte of a word
-pub word_begins : (text : List ℕ) (from : ℕ) → from < length text → word_byte (get_or text from 0) ≡ true →
-    lex (word (take (from + 1 - from) (drop from text))) (drop (from + 1) text) ≡ tokens_in (drop from text)
-word_begins text from l h =
-    let z : from - from ≡ 0 = omega arith in
-    word_turn text from from (le_refl _) l h ∙ ap (λ (k : ℕ). lex (word (take k (drop from text))) (drop from text)) z
+    go : (r : Option ℕ) → n ≡ unwrap_or r (length (drop from text)) → Found r (drop from text) → both (ended (take n (drop from text))) (tokens_in (drop n (drop from text))) ≡ tokens_in (drop from text)
+    go None e m = word_front (drop from text) n (subst (λ (k : ℕ). AllWithin (λ b. word_byte b ≡ true) (drop from text) 0 k) (sym e) m) (omega (arith, e)) (rw (e, drop_all (length (drop from text)) (drop from text) (le_refl _)) refl)
+    go (Some i) e m = word_front (drop from text) n (subst (λ (k : ℕ). AllWithin (λ b. word_byte b ≡ true) (drop from text) 0 k) (sym e) m.2) (omega (arith, e, m.0)) (rw (e, drop-cons (drop from text) i 0 m.0, m.1 0) refl)

@@ -1,13 +1,16 @@
 -- The words of the code are those of the language. Assumes nothing.
-use Rattle.std.proofs.Common.{◌≡◌, ℕ, ◌+◌, ◌-◌, ◌<◌, ◌≤◌, Bool, true, false, ◌&&◌, eqb, ltb, leb, List, [], ◌∷◌, length, get_or, take, drop, codes, sym, refl, ap, ◌∙◌, add-one, arith, length-drop, drop-cons}
+use Rattle.std.proofs.Common.{◌≡◌, ℕ, zero, suc, ◌-◌, ◌<◌, ◌≤◌, Bool, true, false, ◌&&◌, eqb, ltb, leb, List, [], ◌∷◌, length, get_or, take, drop, cond, Some, None, Option, sym, refl, ap, ◌∙◌, arith, length-drop}
 use Rattle.std.proofs.lemmas.Bool.Decides.{nat_tests}
-use Rattle.std.specs.Str.{bytes_eq, all_ascii_digits}
-use Rattle.std.proofs.lemmas.List.{drop_all, take_all}
-use Rattle.plans.specs.Plan.{same_name, every, word_ok, name_ok}
+use Rattle.std.specs.Str.{all_ascii_digits}
+use Rattle.std.proofs.lemmas.List.{take_all}
+use Rattle.plans.specs.Plan.{every, word_ok, name_ok}
 use Rattle.text.specs.Token.{Key, Token, key, number, variable, name}
-use Rattle.text.specs.Lexer.{Lexed, tokens, wrong, one, key_of, key_in, spell, number_of, value_from, top, variable_of, plain_digits, name_of, word_token, or_else}
-use Rattle.text.specs.Words.{key_short, key_long, lower}
-use Rattle.text.specs.Numbers.{begins_variable}
+use Rattle.text.specs.Lexer.{Lexed, tokens, wrong, one, key_of, number_of, value_from, top, variable_of, plain_digits, name_of, word_token, or_else}
+use Rattle.text.specs.Words.{lower}
+use Rattle.text.specs.Numbers.{begins_variable, numbered, variabled}
+use Rattle.std.specs.Prelude.{All, ◌↔◌}
+use Rattle.std.specs.Option.{MatchOption}
+use Rattle.std.proofs.lemmas.Bool.{ltb-true, and_parts, false≢true}
 
 and_false : (a : Bool) → a && false ≡ false
 and_false true = refl
@@ -16,89 +19,39 @@ and_false false = refl
 eqb_sym : (a b : ℕ) → eqb a b ≡ eqb b a
 eqb_sym a b = grind (arith, nat_tests)
 
-same_sym : (xs ys : List ℕ) → same_name xs ys ≡ bytes_eq ys xs
-unfolding same_name
-same_sym [] [] = refl
-same_sym [] (y ∷ ys) = refl
-same_sym (x ∷ xs) [] = refl
-same_sym (x ∷ xs) (y ∷ ys) = rw (eqb_sym x y, same_sym xs ys) refl
-
--- words of another length are other words
-other_length : (xs ys : List ℕ) → eqb (length xs) (length ys) ≡ false → same_name xs ys ≡ false
-unfolding same_name
-other_length [] [] h = h
-other_length [] (y ∷ ys) h = refl
-other_length (x ∷ xs) [] h = refl
-other_length (x ∷ xs) (y ∷ ys) h = let e : eqb (length xs) (length ys) ≡ false = grind (arith, nat_tests) in rw (other_length xs ys e) (and_false (eqb x y))
-
-pub short_key : (w : List ℕ) → length w < 4 → key_short w ≡ key_of w
-unfolding key_of key_in spell
-short_key w l =
-    rw (
-      same_sym (codes "set") w,
-      same_sym (codes "do") w,
-      other_length (codes "tries") w (apart 5 (omega arith)),
-      other_length (codes "pause") w (apart 5 (omega arith)),
-      other_length (codes "sleep") w (apart 5 (omega arith)),
-      other_length (codes "hear") w (apart 4 (omega arith)),
-      same_sym (codes "for") w,
-      same_sym (codes "if") w,
-      other_length (codes "else") w (apart 4 (omega arith)),
-      other_length (codes "while") w (apart 5 (omega arith)),
-      other_length (codes "guard") w (apart 5 (omega arith)),
-      other_length (codes "return") w (apart 6 (omega arith)),
-      other_length (codes "fail") w (apart 4 (omega arith)),
-      same_sym (codes "not") w,
-    ) refl
-  where
-    apart : (n : ℕ) → length w < n → eqb n (length w) ≡ false
-    apart n h = grind (arith, nat_tests)
-
-pub long_key : (w : List ℕ) → 4 ≤ length w → key_long w ≡ key_of w
-unfolding key_of key_in spell
-long_key w l =
-    rw (
-      other_length (codes "set") w (apart 3 (omega arith)),
-      other_length (codes "do") w (apart 2 (omega arith)),
-      same_sym (codes "tries") w,
-      same_sym (codes "pause") w,
-      same_sym (codes "sleep") w,
-      same_sym (codes "hear") w,
-      other_length (codes "for") w (apart 3 (omega arith)),
-      other_length (codes "if") w (apart 2 (omega arith)),
-      same_sym (codes "else") w,
-      same_sym (codes "while") w,
-      same_sym (codes "guard") w,
-      same_sym (codes "return") w,
-      same_sym (codes "fail") w,
-      other_length (codes "not") w (apart 3 (omega arith)),
-    ) refl
-  where
-    apart : (n : ℕ) → n < length w → eqb n (length w) ≡ false
-    apart n h = grind (arith, nat_tests)
-
 -- names
-pub name_size : (w : List ℕ) → (ltb 0 (length w) && leb (length w) 64) ≡ false → false ≡ word_ok w
-name_size w h = rw h refl
-
-pub name_turn : (w : List ℕ) (i : ℕ) → i < length w → lower (get_or w i 0) ≡ true → every lower (drop (i + 1) w) ≡ every lower (drop i w)
-unfolding every
-name_turn w i l h = rw (drop-cons w i 0 l, add-one, h) refl
-
-pub name_bad : (w : List ℕ) (i : ℕ) → i < length w → lower (get_or w i 0) ≡ false → every lower (drop i w) ≡ every lower w → false ≡ word_ok w
-unfolding every
-name_bad w i l h e = let x : every lower (drop i w) ≡ false = rw (drop-cons w i 0 l, h) refl in rw (sym e, x, and_false (name_ok w)) refl
-
 letters_bytes : (w : List ℕ) → every lower w ≡ true → every (λ (b : ℕ). ltb b 256) w ≡ true
 unfolding every
 letters_bytes [] h = refl
 letters_bytes (b ∷ bs) h = let ih : every lower bs ≡ true → every (λ (b : ℕ). ltb b 256) bs ≡ true = letters_bytes bs in grind (arith, nat_tests)
 
-pub name_end : (w : List ℕ) (i : ℕ) → length w ≤ i → every lower (drop i w) ≡ every lower w → (ltb 0 (length w) && leb (length w) 64) ≡ true → true ≡ word_ok w
+every_lower : (w : List ℕ) → All (λ (b : ℕ). lower b ≡ true) w → every lower w ≡ true
 unfolding every
-name_end w i l e h =
-    let x : every lower w ≡ true = sym e ∙ rw (drop_all i w l) refl in
-    rw (h, x, letters_bytes w x) refl
+every_lower [] h = refl
+every_lower (b ∷ bs) h = rw (h 0 0 (omega arith), every_lower bs (λ k d l. h (suc k) d (omega arith))) refl
+
+every_false : (w : List ℕ) → (All (λ (b : ℕ). lower b ≡ true) w → ⊥) → every lower w ≡ false
+unfolding every
+every_false w h = go (every lower w) refl
+  where
+    all_of : (v : List ℕ) → every lower v ≡ true → (k d : ℕ) → k < length v → lower (get_or v k d) ≡ true
+    all_of (b ∷ bs) e zero d l = (and_parts (lower b) (every lower bs) e).0
+    all_of (b ∷ bs) e (suc k) d l = all_of bs ((and_parts (lower b) (every lower bs) e).1) k d (omega arith)
+    all_of [] e k d l = absurd (omega arith)
+
+    go : (e : Bool) → every lower w ≡ e → every lower w ≡ false
+    go true e = absurd (h (all_of w e))
+    go false e = e
+
+-- 1 to 64 bytes, each of them a letter
+pub name_is : (w : List ℕ) (r : Bool) → 1 ≤ length w → length w ≤ 64 → (r ≡ true) ↔ All (λ (b : ℕ). lower b ≡ true) w → r ≡ word_ok w
+name_is w r some few h =
+    let sized : (ltb 0 (length w) && leb (length w) 64) ≡ true = grind (arith, nat_tests) in
+    go r h sized
+  where
+    go : (r : Bool) → (r ≡ true) ↔ All (λ (b : ℕ). lower b ≡ true) w → (ltb 0 (length w) && leb (length w) 64) ≡ true → r ≡ word_ok w
+    go true h s = let e = every_lower w (h.0 refl) in rw (s, e, letters_bytes w e) refl
+    go false h s = rw (every_false w (λ a. false≢true (h.1 a)), and_false (name_ok w)) refl
 
 -- variables
 pub variable_none : (w : List ℕ) → begins_variable w ≡ false → wrong ≡ variable_of w
@@ -142,6 +95,20 @@ variable_bad (b ∷ ds) e =
     let z : (eqb b 118 && plain_digits ds && ltb (value_from 0 ds) 64) ≡ false = grind (arith, nat_tests) in
     rw z refl
 
+-- the code's tail of a word
+pub tail_is : (w : List ℕ) → number_of (take (length w - 1) (drop 1 w)) ≡ number_of (drop 1 w)
+tail_is w = ap number_of (take_all (length w - 1) (drop 1 w) (simp length-drop (omega arith)))
+
+-- what is left of a number below 64
+pub variable_is : (w : List ℕ) (r v : Option ℕ) → begins_variable w ≡ true → numbered r ≡ number_of (take (length w - 1) (drop 1 w)) →
+    MatchOption r (v ≡ None) (λ n. v ≡ cond (ltb n 64) (Some n) None) → variabled v ≡ variable_of w
+variable_is w None v h e m = rw m (variable_bad w (e ∙ tail_is w))
+variable_is w (Some n) v h e m = go (ltb n 64) refl m
+  where
+    go : (b : Bool) → ltb n 64 ≡ b → v ≡ cond b (Some n) None → variabled v ≡ variable_of w
+    go true i m = rw m (variable_some w n h (e ∙ tail_is w) (ltb-true n 64 i))
+    go false i m = rw m (variable_big w n (e ∙ tail_is w) (grind (arith, nat_tests)))
+
 -- words
 pub word_number : (w : List ℕ) (n : ℕ) → tokens (number n ∷ []) ≡ number_of w → tokens (number n ∷ []) ≡ word_token w
 unfolding word_token or_else
@@ -158,7 +125,3 @@ word_name w e f g = rw (sym e, sym f, sym g) refl
 pub word_other : (w : List ℕ) (r : Lexed) → wrong ≡ number_of w → wrong ≡ key_of w → false ≡ word_ok w → r ≡ variable_of w → r ≡ word_token w
 unfolding word_token or_else name_of
 word_other w r e f g h = rw (sym e, sym f, sym g, sym h) refl
-
--- the code's tail of a word
-pub tail_is : (w : List ℕ) → number_of (take (length w - 1) (drop 1 w)) ≡ number_of (drop 1 w)
-tail_is w = ap number_of (take_all (length w - 1) (drop 1 w) (simp length-drop (omega arith)))

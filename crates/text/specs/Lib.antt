@@ -2,6 +2,7 @@ pub mod Token
 pub mod Grammar
 pub mod Parser
 pub mod Printer
+pub mod Kinds
 pub mod Lexer
 pub mod Text
 pub mod Promise

@@ -3,15 +3,18 @@
 
 ghost use Rattle.text.specs.Promise.{OnePlan, ReadsExactly, SaysExactly, Printed, ReadBack, SamePlans};
 ghost use Rattle.std.specs.Prelude.{◌≡◌, ℕ, ◌+◌, ◌-◌, ◌<◌, ◌≤◌, true, false, List, length, drop, slice_index, slice_range};
-ghost use Rattle.std.specs.Str.{bytes_eq};
 ghost use Rattle.plans.specs.Plan.{word_ok};
 ghost use Rattle.text.specs.Lexer.{word_byte, tokens_in, both, ended, number_of, variable_of, sign_of, key_of, word_token};
 ghost use Rattle.text.specs.Gaps.{goes_on, in_remark};
 ghost use Rattle.text.specs.Numbers.{Stepped, numbered, variabled, Below, begins_variable};
-ghost use Rattle.text.specs.Words.{saying, key_short, key_long, lower};
+ghost use Rattle.text.specs.Words.{saying};
 ghost use Rattle.text.specs.Ahead.{ahead, meant, means, Forth, Plain};
 
-#[derive(Clone, Copy)]
+use plans::kinds;
+use std::error::Error;
+use std::fmt;
+
+#[derive(Clone, Copy, Debug, PartialEq, Eq)]
 pub enum Operator {
     Plus,
     Minus,
@@ -20,7 +23,7 @@ pub enum Operator {
     Same,
 }
 
-#[derive(Clone, Copy)]
+#[derive(Clone, Copy, Debug, PartialEq, Eq)]
 pub enum Key {
     Set,
     Do,
@@ -43,8 +46,95 @@ pub enum Key {
     Comma,
 }
 
+impl Key {
+    ghost use Rattle.text.specs.Lexer.{spell};
+    ghost use Rattle.text.specs.Ahead.{key_meant};
+
+    // How it is written.
+    #[tactic(auto, unfolding(crate::specs::Lexer::spell))]
+    pub fn as_str(self) -> &'static str
+        ensures { result.now ≡ spell (key_meant self) }
+    {
+        match self {
+            Key::Set => "set",
+            Key::Do => "do",
+            Key::Tries => "tries",
+            Key::Pause => "pause",
+            Key::Sleep => "sleep",
+            Key::Hear => "hear",
+            Key::For => "for",
+            Key::If => "if",
+            Key::Else => "else",
+            Key::While => "while",
+            Key::Guard => "guard",
+            Key::Return => "return",
+            Key::Fail => "fail",
+            Key::Not => "not",
+            Key::Open => "(",
+            Key::Close => ")",
+            Key::Begin => "{",
+            Key::End => "}",
+            Key::Comma => ",",
+        }
+    }
+}
+
+impl fmt::Display for Key {
+    fn fmt<W: fmt::Write>(&self, f: &mut fmt::Formatter<W>) -> fmt::Result {
+        f.write_str(self.as_str())
+    }
+}
+
+// The kind of unit that an operation is in the flat form.
+impl From<Operator> for u64 {
+    ghost use Rattle.text.specs.Kinds.{kind_of};
+
+    ghost from_gives = { λ operator kind. kind ≡ kind_of operator };
+
+    fn from(operator: Operator) -> u64 {
+        match operator {
+            Operator::Plus => kinds::PLUS,
+            Operator::Minus => kinds::MINUS,
+            Operator::Times => kinds::TIMES,
+            Operator::Less => kinds::LESS,
+            Operator::Same => kinds::SAME,
+        }
+    }
+}
+
+// A kind of unit that is no operation.
+#[derive(Clone, Copy, Debug, PartialEq, Eq)]
+pub struct NoOperation(pub u64);
+
+impl fmt::Display for NoOperation {
+    fn fmt<W: fmt::Write>(&self, f: &mut fmt::Formatter<W>) -> fmt::Result {
+        write!(f, "no operation has the kind {}", self.0)
+    }
+}
+
+impl Error for NoOperation {}
+
+impl TryFrom<u64> for Operator {
+    type Error = NoOperation;
+
+    ghost use Rattle.text.specs.Kinds.{Operates};
+
+    ghost try_from_gives = { Operates };
+
+    fn try_from(kind: u64) -> Result<Operator, NoOperation> {
+        match kind {
+            kinds::PLUS => Ok(Operator::Plus),
+            kinds::MINUS => Ok(Operator::Minus),
+            kinds::TIMES => Ok(Operator::Times),
+            kinds::LESS => Ok(Operator::Less),
+            kinds::SAME => Ok(Operator::Same),
+            _ => Err(NoOperation(kind)),
+        }
+    }
+}
+
 // What stands at a place of a text. Stop: nothing more. Bad: what stands there is no token.
-#[derive(Clone, Copy)]
+#[derive(Clone, Copy, Debug, PartialEq, Eq)]
 pub enum Token {
     Number(u64),
     Variable(u64),
@@ -56,7 +146,7 @@ pub enum Token {
 }
 
 // A token of a text: where it begins, and where what follows it begins.
-#[derive(Clone, Copy)]
+#[derive(Clone, Copy, Debug, PartialEq, Eq)]
 pub struct Lexeme {
     pub token: Token,
     pub start: usize,
@@ -67,7 +157,7 @@ pub struct Lexeme {
 fn word_byte(b: u8) -> bool
     ensures { result ≡ word_byte b }
 {
-    (b'0' <= b && b <= b'9') || (b'A' <= b && b <= b'Z') || (b'a' <= b && b <= b'z')
+    b.is_ascii_alphanumeric()
 }
 
 // Is this byte between the tokens, where a remark has begun or not.
@@ -84,6 +174,7 @@ fn in_remark(remark: bool, b: u8) -> bool
 }
 
 // Behind blanks and remarks.
+// A loop and no `position`: whether a remark has begun goes on from byte to byte, which a closure would have to change.
 fn past_blanks(text: &[u8], from: usize) -> usize
     requires { from ≤ length text.now }
     ensures forth { from ≤ result }
@@ -110,11 +201,11 @@ fn past_word(text: &[u8], from: usize) -> usize
     ensures within { result ≤ length text.now }
     ensures same { both (ended (slice_range text.now from result)) (tokens_in (drop result text.now)) ≡ tokens_in (drop from text.now) }
 {
-    let mut pos = from + 1;
-    while pos < text.len() && word_byte(text[pos]) {
-        pos += 1;
-    }
-    pos
+    let behind = &text[from..];
+    from + behind
+        .iter()
+        .position(|&b| !word_byte(b))
+        .unwrap_or(behind.len())
 }
 
 // A number with one digit more, if it stays below 2 to the 64.
@@ -132,6 +223,7 @@ fn step(n: u64, d: u8) -> Option<u64>
 }
 
 // The number that a word is.
+// A loop and no `try_fold`, which says no more: `?` already ends it at the first byte that is no digit.
 fn number_of(w: &[u8]) -> Option<u64>
     ensures { numbered result ≡ number_of w.now }
 {
@@ -157,10 +249,7 @@ fn variable_of(w: &[u8]) -> Option<u64>
     if !begins_variable(w) {
         return None;
     }
-    match number_of(&w[1..]) {
-        Some(n) => { if n < 64 { Some(n) } else { None } }
-        None => None,
-    }
+    number_of(&w[1..]).filter(|&n| n < 64)
 }
 
 // The token that a byte is which is part of no word.
@@ -183,97 +272,35 @@ fn sign_of(b: u8) -> Token
     }
 }
 
-fn is_word(w: &[u8], word: &[u8]) -> bool
-    ensures { result ≡ bytes_eq w.now word.now }
-{
-    w == word
-}
-
-// Which of the language's words of two or three letters this is.
-fn short_key(w: &[u8]) -> Option<Key>
-    ensures { saying result ≡ key_short w.now }
-{
-    if is_word(w, b"set") {
-        return Some(Key::Set);
-    }
-    if is_word(w, b"do") {
-        return Some(Key::Do);
-    }
-    if is_word(w, b"for") {
-        return Some(Key::For);
-    }
-    if is_word(w, b"if") {
-        return Some(Key::If);
-    }
-    if is_word(w, b"not") {
-        return Some(Key::Not);
-    }
-    None
-}
-
-// Which of the language's longer words this is.
-fn long_key(w: &[u8]) -> Option<Key>
-    ensures { saying result ≡ key_long w.now }
-{
-    if is_word(w, b"tries") {
-        return Some(Key::Tries);
-    }
-    if is_word(w, b"pause") {
-        return Some(Key::Pause);
-    }
-    if is_word(w, b"sleep") {
-        return Some(Key::Sleep);
-    }
-    if is_word(w, b"hear") {
-        return Some(Key::Hear);
-    }
-    if is_word(w, b"else") {
-        return Some(Key::Else);
-    }
-    if is_word(w, b"while") {
-        return Some(Key::While);
-    }
-    if is_word(w, b"guard") {
-        return Some(Key::Guard);
-    }
-    if is_word(w, b"return") {
-        return Some(Key::Return);
-    }
-    if is_word(w, b"fail") {
-        return Some(Key::Fail);
-    }
-    None
-}
-
 // Which word of the language this is.
+#[tactic(auto, using(crate::proofs::Letters::key_letters))]
 fn key_of(w: &[u8]) -> Option<Key>
     ensures { saying result ≡ key_of w.now }
 {
-    if w.len() < 4 {
-        return short_key(w);
+    match w {
+        b"set" => Some(Key::Set),
+        b"do" => Some(Key::Do),
+        b"tries" => Some(Key::Tries),
+        b"pause" => Some(Key::Pause),
+        b"sleep" => Some(Key::Sleep),
+        b"hear" => Some(Key::Hear),
+        b"for" => Some(Key::For),
+        b"if" => Some(Key::If),
+        b"else" => Some(Key::Else),
+        b"while" => Some(Key::While),
+        b"guard" => Some(Key::Guard),
+        b"return" => Some(Key::Return),
+        b"fail" => Some(Key::Fail),
+        b"not" => Some(Key::Not),
+        _ => None,
     }
-    long_key(w)
-}
-
-fn is_lower(b: u8) -> bool
-    ensures { result ≡ lower b }
-{
-    b'a' <= b && b <= b'z'
 }
 
 // Is this a name: 1 to 64 letters a to z.
 fn is_name(w: &[u8]) -> bool
     ensures { result ≡ word_ok w.now }
 {
-    if w.len() == 0 || w.len() > 64 {
-        return false;
-    }
-    for b in w {
-        if !is_lower(*b) {
-            return false;
-        }
-    }
-    true
+    (1..=64).contains(&w.len()) && w.iter().all(u8::is_ascii_lowercase)
 }
 
 // The token that a word is.

@@ -35,11 +35,8 @@ fn answer(heap: Global, text: &[u8]) -> anyhow::Result<String> {
 
 // The answer about a text that is a plan.
 fn accepted(heap: Global, size: usize, slate: &Slate) -> anyhow::Result<String> {
-    if slate.len > slate.words.len() {
-        return Err(anyhow!("a slate is damaged"));
-    }
     let mut out = Vec::new(heap);
-    if let Err(_) = print(&slate.words[0..slate.len], &mut out) {
+    if let Err(_) = print(slate.as_slice(), &mut out) {
         return Err(anyhow!("a plan was not printed"));
     }
     if out.len() == 0 || out.len() > SHORT {

@@ -1,9 +1,10 @@
 // Tidying: a plan's text, read and printed well laid out; or where it is no plan.
 #![tactic(auto)]
 
-ghost use Rattle.std.specs.Prelude.{◌≡◌, ℕ, ◌≤◌, min, true, length, take, IfSome, Ok, Err, vec_len};
+ghost use Rattle.std.specs.Prelude.{◌≡◌, ℕ, ◌≤◌, min, true, length, IfSome, Ok, Err};
 ghost use Rattle.plans.specs.Plan.{Block, block_ok};
 ghost use Rattle.plans.specs.Flat.{laid};
+ghost use Rattle.plans.specs.Slate.{words_of};
 ghost use Rattle.text.specs.Printer.{text_of};
 ghost use Rattle.tidy.specs.Tidies.{Tidied, Why, reason_of, PlaceAt};
 
@@ -53,14 +54,10 @@ fn reason(e: ReadError) -> TidyError
 
 // The text of the plan whose flat form is on the slate.
 fn printed(heap: Global, slate: &Slate) -> Option<Vec<u8>>
-    ensures { (b : Block) → take slate.now.len slate.now.words.items ≡ laid b → slate.now.len ≤ vec_len slate.now.words → block_ok b ≡ true → IfSome result (λ v. v.items ≡ text_of b) }
+    ensures { (b : Block) → words_of slate.now ≡ laid b → block_ok b ≡ true → IfSome result (λ v. v.items ≡ text_of b) }
 {
-    let len = slate.len;
-    if len > slate.words.len() {
-        return None;
-    }
     let mut out = Vec::new(heap);
-    match print(&slate.words[0..len], &mut out) {
+    match print(slate.as_slice(), &mut out) {
         Ok(()) => Some(out),
         Err(_) => None,
     }
