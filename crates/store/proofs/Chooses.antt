@@ -1,5 +1,5 @@
 -- Turns of the loops that mark and choose blocks. Assumes nothing.
-use Rattle.std.proofs.Common.{◌≡◌, ℕ, zero, suc, ◌+◌, ◌-◌, ◌<◌, ◌≤◌, min, cond, List, [], ◌∷◌, ◌++◌, length, get_or, take, drop, set, replicate, Some, None, sym, refl, ap, ◌∙◌, subst, append-nil, add-one, arith, length-set, take-append-drop, length-take, length-take-le, drop-cons, take-suc-set, eq-eqb, ne_eqb, le-leb}
+use Rattle.std.proofs.Common.{◌≡◌, ℕ, suc, ◌+◌, ◌-◌, ◌<◌, ◌≤◌, min, cond, List, [], ◌∷◌, ◌++◌, length, get_or, take, drop, set, replicate, Some, None, sym, ap, ◌∙◌, subst, append-nil, add-one, arith, length-set, take-append-drop, length-take, length-take-le, drop-cons, take-suc-set, eq-eqb, ne_eqb, le-leb}
 use Rattle.std.proofs.Math.Seq.{take-nil}
 use Rattle.std.proofs.lemmas.List.{drop_all, drop-set-lt}
 use lib.Seq.{append_snoc}

@@ -1,6 +1,9 @@
 -- Loops over slots, and over a key. Assumes nothing.
-use Rattle.std.proofs.Common.{◌≡◌, ℕ, suc, ◌+◌, ◌-◌, ◌<◌, ◌≤◌, Bool, true, false, cond, ◌&&◌, eqb, List, [], ◌∷◌, length, take, drop, Some, None, refl, ap, ◌∙◌, arith, length-drop, length-take-le}
-use Rattle.std.specs.List.{list_all, zip}
+use Rattle.std.proofs.Common.{◌≡◌, ℕ, zero, suc, ◌+◌, ◌-◌, ◌<◌, ◌≤◌, Bool, true, false, cond, ◌&&◌, eqb, List, [], ◌∷◌, length, take, drop, Some, None, refl, ap, ◌∙◌, arith, length-drop, length-take-le, ◌*◌, map}
+use Rattle.std.specs.Prelude.{sum}
+use Rattle.std.proofs.lemmas.List.Sums.{sum_by-cons}
+use Rattle.std.specs.List.{list_all, zip, range_with_len}
+use Rattle.store.specs.Layout.{used_of, size_at}
 use Rattle.plans.specs.Plan.{same_name}
 use Rattle.store.specs.Finds.{first_slot, weighs, weight_over}
 
@@ -19,13 +22,25 @@ pub first_none : (p : ℕ → Bool) (i n : ℕ) → n ≤ i → first_slot p i (
 unfolding first_slot
 first_none p i n h = let z : n - i ≡ 0 = omega arith in ap (first_slot p i) z
 
-pub weight_more : (q d : List ℕ) (i n : ℕ) → i < n → weight_over q d i (n - i) ≡ weighs q d i + weight_over q d (i + 1) (n - (i + 1))
-unfolding weight_over
-weight_more q d i n h = ap (weight_over q d i) (more i n h)
+weighs_low : (q d : List ℕ) (i : ℕ) → weighs q d i ≤ 81920
+weighs_low q d i = go (eqb (used_of q i) 1)
+  where
+    go : (b : Bool) → cond b (16384 + 16 * size_at d i) 0 ≤ 81920
+    go true = omega arith
+    go false = omega arith
 
-pub weight_none : (q d : List ℕ) (i n : ℕ) → n ≤ i → weight_over q d i (n - i) ≡ 0
+pub weight_low : (q d : List ℕ) (i n : ℕ) → weight_over q d i n ≤ 81920 * n
 unfolding weight_over
-weight_none q d i n h = let z : n - i ≡ 0 = omega arith in ap (weight_over q d i) z
+weight_low q d i zero = omega arith
+weight_low q d i (suc n) = let k = weight_low q d (i + 1) n in let w = weighs_low q d i in omega arith
+
+pub weight_sum : (q d : List ℕ) (i n : ℕ) → sum (map (weighs q d) (range_with_len i n)) ≡ weight_over q d i n
+unfolding weight_over
+weight_sum q d i zero = refl
+weight_sum q d i (suc n) = sum_by-cons (λ v. v) (weighs q d i) (map (weighs q d) (range_with_len (i + 1) n)) ∙ ap (λ v. weighs q d i + v) (weight_sum q d (i + 1) n)
+
+pub weight_fits : (q d : List ℕ) (n : ℕ) → n ≤ 1024 → sum (map (weighs q d) (range_with_len 0 n)) < 18446744073709551616
+weight_fits q d n few = let l = weight_low q d 0 n in let s = weight_sum q d 0 n in omega arith
 
 -- two names of one length are the same if each pair of letters is
 pub same_all : (a b : List ℕ) → length a ≡ length b → list_all (λ (p : ℕ × ℕ). eqb p.0 p.1) (zip a b) ≡ same_name a b

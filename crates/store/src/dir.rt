@@ -137,11 +137,7 @@ impl Dir {
         ensures is { result ≡ weight_over root.now self.now 0 1024 }
         ensures low { result ≤ 83886080 }
     {
-        let mut sum = 0;
-        for i in 0..SLOTS {
-            sum += self.weight_at(root, Slot::new(i));
-        }
-        sum
+        (0..SLOTS).map(|i| self.weight_at(root, Slot::new(i))).sum()
     }
 
     // The directory shall have this entry for a slot.

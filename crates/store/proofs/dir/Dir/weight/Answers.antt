@@ -1,20 +1,23 @@
-use Rattle.std.proofs.Common.{ap, ◌∙◌, arith}
+use Rattle.std.proofs.Common.{refl, ◌∙◌, rules, arith}
+use Rattle.std.proofs.lemmas.Iterator.{YieldsList-from_range, YieldsList-from_map}
+use Rattle.std.proofs.lemmas.Iterator.Consumers.{YieldsList-at, sum_from_yields_List, fits_from_yields_list}
 use Rattle.store.specs.Finds.{weighs}
-use Rattle.store.proofs.Finds.{weight_more, weight_none}
+use Rattle.store.proofs.Finds.{weight_sum, weight_fits, weight_low}
 use Rattle.store.proofs.dir.Dir.weight.Goals as goal
 
-pub loop-i-preserved : goal.loop-i-preserved
-loop-i-preserved c =
-    let m = weight_more c.args.root.now c.args.self.now c.loop-i.i 1024 (omega arith) in
-    let k = c.loop-i.invariant.0 in
-    let l = c.loop-i.invariant.1 in
-    let e = c.weight_at-sum.ensures.is ∙ ap (weighs c.args.root.now c.args.self.now) c.new.ensures in
-    let h = c.weight_at-sum.ensures.low in
-    (omega arith, omega arith)
+pub sum-requires-clause-fits : goal.sum-requires-clause-fits
+sum-requires-clause-fits c =
+    let q = c.args.root.now in
+    let d = c.args.self.now in
+    fits_from_yields_list c.map.result 18446744073709551616
+    (YieldsList-from_map _ (weighs q d) (YieldsList-at c.map.ensures.source (YieldsList-from_range 0 1024 1024 refl refl)) c.map.ensures.closure (λ x r t k. search rules))
+    (weight_fits q d 1024 (omega arith))
 
 pub returns : goal.returns
 returns c =
-    let m = weight_none c.args.root.now c.args.self.now c.loop-i.i 1024 (omega arith) in
-    let k = c.loop-i.invariant.0 in
-    let l = c.loop-i.invariant.1 in
-    record { is = omega arith; low = omega arith }
+    let q = c.args.root.now in
+    let d = c.args.self.now in
+    let l = weight_low q d 0 1024 in
+    let is = sum_from_yields_List c.map.result c.sum.result c.sum.ensures.ran
+    (YieldsList-from_map _ (weighs q d) (YieldsList-at c.map.ensures.source (YieldsList-from_range 0 1024 1024 refl refl)) c.map.ensures.closure (λ x r t k. search rules)) ∙ weight_sum q d 0 1024 in
+    record { is = is; low = omega arith }
