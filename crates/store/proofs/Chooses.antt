@@ -1,21 +1,11 @@
 -- Turns of the loops that mark and choose blocks. Assumes nothing.
-use Rattle.std.proofs.Common.{◌≡◌, ℕ, zero, suc, ◌+◌, ◌-◌, ◌<◌, ◌≤◌, min, cond, List, [], ◌∷◌, ◌++◌, length, get_or, take, drop, set, replicate, Some, None, sym, refl, ap, ◌∙◌, subst, append-nil, add-one, arith, length-set, take-append-drop, length-take, length-take-le, drop-cons, take-suc-set, eq-eqb, ne_eqb, le-leb}
+use Rattle.std.proofs.Common.{◌≡◌, ℕ, suc, ◌+◌, ◌-◌, ◌<◌, ◌≤◌, min, cond, List, [], ◌∷◌, ◌++◌, length, get_or, take, drop, set, replicate, Some, None, sym, ap, ◌∙◌, subst, append-nil, add-one, arith, length-set, take-append-drop, length-take, length-take-le, drop-cons, take-suc-set, eq-eqb, ne_eqb, le-leb}
+use Rattle.std.proofs.Math.Seq.{take-nil}
+use Rattle.std.proofs.lemmas.List.{drop_all, drop-set-lt}
 use lib.Seq.{append_snoc}
 use borrow.Author.Tests.{lt-leb}
 use Rattle.store.specs.Layout.{block_at}
 use Rattle.store.specs.Room.{mark_blocks, mark_slot, mark_slots, zeros_from, chosen}
-
-pub set_past : (ms : List ℕ) (b v : ℕ) → length ms ≤ b → set ms b v ≡ ms
-set_past [] b v h = refl
-set_past (m ∷ ms) zero v h = absurd (omega arith)
-set_past (m ∷ ms) (suc b) v h = ap (λ xs. m ∷ xs) (set_past ms b v (omega arith))
-
-pub all_zeros : (n : ℕ) (ms : List ℕ) → length ms ≡ n → ((k : ℕ) → k < n → get_or ms k 0 ≡ 0) → ms ≡ replicate n 0
-all_zeros zero [] e h = refl
-all_zeros zero (m ∷ ms) e h = absurd (omega arith)
-all_zeros (suc n) [] e h = absurd (omega arith)
-all_zeros (suc n) (m ∷ ms) e h =
-    ap (λ x. x ∷ ms) (h 0 (omega arith)) ∙ ap (λ xs. 0 ∷ xs) (all_zeros n ms (omega arith) (λ k l. h (suc k) (omega arith)))
 
 pub blocks_turn : (d : List ℕ) (i k n : ℕ) (ms : List ℕ) → k < n → mark_blocks d i (k + 1) (n - (k + 1)) (set ms (block_at d i k) 1) ≡ mark_blocks d i k (n - k) ms
 unfolding mark_blocks
@@ -43,11 +33,6 @@ Choosing need ms count blocks b =
 cons_at : (xs : List ℕ) (i : ℕ) → i < length xs → drop i xs ≡ get_or xs i 0 ∷ drop (i + 1) xs
 cons_at xs i h = drop-cons xs i 0 h ∙ ap (λ j. get_or xs i 0 ∷ drop j xs) (sym (add-one i))
 
-drop_set : (xs : List ℕ) (i v : ℕ) → drop (suc i) (set xs i v) ≡ drop (suc i) xs
-drop_set [] i v = refl
-drop_set (x ∷ xs) zero v = refl
-drop_set (x ∷ xs) (suc i) v = drop_set xs i v
-
 tail_drop : (xs : List ℕ) (i n : ℕ) → i < length xs → drop i xs ≡ replicate (suc n) 0 → drop (i + 1) xs ≡ replicate n 0
 tail_drop xs i n h e = let c = cons_at xs i h in cc
 
@@ -67,7 +52,7 @@ choose_take need ms count blocks b few h lt z (le, long, rest, all) =
     let front : take (count + 1) (set blocks count b) ≡ take count blocks ++ (b ∷ []) = ap (λ k. take k (set blocks count b)) (add-one count) ∙ take-suc-set blocks count b inside in (
       omega arith,
       length-set blocks count b ∙ long,
-      ap (λ k. drop k (set blocks count b)) (add-one count) ∙ drop_set blocks count b ∙ ap (λ k. drop k blocks) (sym (add-one count)) ∙ tail_drop blocks count (18 - (count + 1)) inside (rest ∙ ap (λ k. replicate k 0) s),
+      ap (λ k. drop k (set blocks count b)) (add-one count) ∙ drop-set-lt (suc count) blocks count b (omega arith) ∙ ap (λ k. drop k blocks) (sym (add-one count)) ∙ tail_drop blocks count (18 - (count + 1)) inside (rest ∙ ap (λ k. replicate k 0) s),
       ap (λ xs. xs ++ take (need - (count + 1)) (zeros_from (drop (b + 1) ms) (b + 1))) front
           ∙ append_snoc (take count blocks) b (take (need - (count + 1)) (zeros_from (drop (b + 1) ms) (b + 1)))
           ∙ ap (λ xs. take count blocks ++ xs) (sym (ap (λ k. take k (zeros_from (drop b ms) b)) n ∙ ap (take (suc (need - (count + 1)))) (zeros_here ms b h z)))
@@ -87,20 +72,10 @@ choose_full need ms count blocks b h (le, long, rest, all) =
       ap (λ k. take count blocks ++ take k (zeros_from (drop (b + 1) ms) (b + 1))) n ∙ sym (ap (λ k. take count blocks ++ take k (zeros_from (drop b ms) b)) n) ∙ all,
     )
 
-drop_past : (i : ℕ) (ws : List ℕ) → length ws ≤ i → drop i ws ≡ []
-drop_past zero [] h = refl
-drop_past (suc i) [] h = refl
-drop_past zero (w ∷ ws) h = absurd (omega arith)
-drop_past (suc i) (w ∷ ws) h = drop_past i ws (omega arith)
-
-take_none : (n : ℕ) → take {A = ℕ} n [] ≡ []
-take_none zero = refl
-take_none (suc n) = refl
-
 all_taken : (need : ℕ) (ms : List ℕ) (count : ℕ) (blocks : List ℕ) (b : ℕ) → length ms ≤ b → Choosing need ms count blocks b → take count blocks ≡ take need (zeros_from ms 0)
 unfolding zeros_from
 all_taken need ms count blocks b h (le, long, rest, all) =
-    sym (append-nil (take count blocks)) ∙ ap (λ xs. take count blocks ++ xs) (sym (ap (λ xs. take (need - count) (zeros_from xs b)) (drop_past b ms h) ∙ take_none (need - count))) ∙ all
+    sym (append-nil (take count blocks)) ∙ ap (λ xs. take count blocks ++ xs) (sym (ap (λ xs. take (need - count) (zeros_from xs b)) (drop_all b ms h) ∙ take-nil (need - count))) ∙ all
 
 counted : (need : ℕ) (ms : List ℕ) (count : ℕ) (blocks : List ℕ) (b : ℕ) → need ≤ 18 → length ms ≤ b → Choosing need ms count blocks b → count ≡ min need (length (zeros_from ms 0))
 counted need ms count blocks b few h k =

@@ -8,13 +8,11 @@ use Rattle.device.specs.Flips.{commit_work, Rests, Amid}
 use Rattle.device.proofs.Safe.{safe_bind, safe_more}
 use Rattle.device.proofs.Image.{upd_line, upd_same, at_left}
 use Rattle.device.proofs.Commit.{amid_rests}
-use Rattle.words.specs.Runs.{read_from, puts, Small, Drafting}
-use Rattle.words.proofs.Runs.{reads_length, puts_line as words-line}
-use Rattle.words.proofs.Drafting.{drafting_start, drafting_save, drafting_flip, reads_here, reads_flipped}
-use Rattle.blocks.specs.Works.{block_line, load_via, save_via}
-use Rattle.blocks.specs.Runs.{read_via, put_via, Each}
-use Rattle.blocks.proofs.Runs.{reads_ext, reads_puts, puts_line}
-use Rattle.blocks.proofs.Drafting.{drafting_load_via, drafting_save_via}
+use Rattle.words.specs.Works.{load_via, save_via, from_line}
+use Rattle.words.specs.Runs.{read_via, put_via, read_from, puts, Each, Small, Drafting}
+use Rattle.words.proofs.Runs.{reads_length, reads_ext, reads_puts, puts_line}
+use Rattle.words.proofs.Drafting.{drafting_start, drafting_load_via, drafting_save_via, drafting_flip, reads_here, reads_flipped}
+use Rattle.blocks.specs.Works.{block_line}
 use Rattle.store.specs.Layout.{slots, root_words, root_lines, root_line, entry_line, page_words, page_lines, turn_at, used_of, pick_of, size_at, block_at, blocks_for, page_at, plan_at, Mind, flipped_to}
 use Rattle.store.specs.Works.{save_page, flip_to}
 use Rattle.store.specs.Shows.{Used, Sane, Body, Shows, Counts}
@@ -51,7 +49,7 @@ pub draft_start : (N : ℕ) (x : Mind) (g : Image) (fp pl : ℕ → List ℕ) (m
 draft_start N x g fp pl m a w = record {
   image = g;
   drafting = drafting_start (Counts x) g m a;
-  long = ap length (sym w.rooted) ∙ reads_length g (root_line (x.word % 2)) 0 root_words;
+  long = ap length (sym w.rooted) ∙ reads_length g (from_line (root_line (x.word % 2))) 0 root_words;
   small = w.small;
   body = w.body;
 }
@@ -63,10 +61,10 @@ used_turned q i j hi hj = turn_apart 17 q i 1 j (λ e. omega arith)
 module _ {N : ℕ} {x : Mind} {g : Image} {q d : List ℕ} {fp pl : ℕ → List ℕ} {m : Lines} (room : 32768 ≤ N) (w : Draft N x g q d fp pl m) where
   -- a page, and a plan, as the draft has them
   pub draft_load_page : {R : Lines → Type 0} {Q : List ℕ → Lines → Type 0} (i : ℕ) → Used q i → R m → Q (fp i) m → Safe N Q R (load_via (page_at N d i (pick_of q i)) 0 page_words) m
-  draft_load_page {R} {Q} i u r k = drafting_load_via w.drafting (page_at N d i (pick_of q i)) page_words (λ l. line_in_lem N l _ room) r (subst (λ ws. Q ws m) (sym (w.body.pages i u)) k)
+  draft_load_page {R} {Q} i u r k = drafting_load_via w.drafting (page_at N d i (pick_of q i)) page_words (λ l z. line_in_lem N l _ room) r (subst (λ ws. Q ws m) (sym (w.body.pages i u)) k)
 
   pub draft_load_plan : {R : Lines → Type 0} {Q : List ℕ → Lines → Type 0} (i : ℕ) → Used q i → R m → Q (pl i) m → Safe N Q R (load_via (plan_at N d i) 0 (4 * size_at d i)) m
-  draft_load_plan {R} {Q} i u r k = drafting_load_via w.drafting (plan_at N d i) (4 * size_at d i) (λ l. line_in_lem N l _ room) r (subst (λ ws. Q ws m) (sym (w.body.plans i u)) k)
+  draft_load_plan {R} {Q} i u r k = drafting_load_via w.drafting (plan_at N d i) (4 * size_at d i) (λ l z. line_in_lem N l _ room) r (subst (λ ws. Q ws m) (sym (w.body.plans i u)) k)
 
 -- the copy of a page that does not count is saved, and is to count
 module _ {N : ℕ} {x : Mind} {g : Image} {q : List ℕ} {fp pl : ℕ → List ℕ} {m : Lines} (room : 32768 ≤ N) (w : Draft N x g q x.dir fp pl m) where
@@ -103,7 +101,7 @@ module _ {N : ℕ} {x : Mind} {g : Image} {q : List ℕ} {fp pl : ℕ → List �
       (λ o r. r)
       (drafting_save_via w.drafting at page_lines ws
       (λ j k a hk. subst (λ l. eqb j l ≡ false) (sym (line k (omega arith))) (a.1 i k ux (omega arith)))
-      (omega arith) (λ l. line_in_lem N l _ room) small calm))
+      (omega arith) (λ l z. line_in_lem N l _ room) small calm))
     where
       d : List ℕ
       d = x.dir
@@ -169,7 +167,7 @@ module _ {N : ℕ} {x : Mind} {g : Image} {q d : List ℕ} {fp pl gp hl : ℕ �
       (safe_more
       (λ y o r a. drafting_flip a (Decodes N) 0 0 v (told x gp hl) (told (flipped_to x q d) fp pl) old (omega arith) (omega arith) (omega arith) new)
       (λ o r. r)
-      (drafting_save w.drafting line root_lines q (λ j k c h. c.0 k h) (omega (arith, w.long)) (omega arith) w.small
+      (drafting_save_via w.drafting (from_line line) root_lines q (λ j k c h. c.0 k h) (omega (arith, w.long)) (λ l h. omega arith) w.small
       (λ o a p l. inl (amid_rests (Decodes N) (Counts x) g (told x gp hl) old o p a l))))
     where
       v : ℕ
@@ -194,5 +192,5 @@ module _ {N : ℕ} {x : Mind} {g : Image} {q d : List ℕ} {fp pl gp hl : ℕ �
         small = w.small;
         body = body_ext N w.image h q d fp pl w.body (λ j k o.
             let lo = on_low q d j o in
-            e j k tt ∙ upd_line 0 0 v h2 j k (ne_eqb _ _ (λ t. omega arith)) ∙ words-line line 0 q w.image j k (λ n hn. ne_eqb _ _ (λ t. omega (arith, w.long))));
+            e j k tt ∙ upd_line 0 0 v h2 j k (ne_eqb _ _ (λ t. omega arith)) ∙ puts_line (from_line line) 0 q w.image j k (λ n hn. ne_eqb _ _ (λ t. omega (arith, w.long))));
       }

@@ -1,5 +1,8 @@
 -- Entries. Assumes nothing.
-use Rattle.std.proofs.Common.{◌≡◌, ℕ, zero, suc, ◌+◌, ◌-◌, ◌*◌, ◌/◌, ◌%◌, ◌^◌, ◌<◌, ◌≤◌, min, Bool, true, false, cond, eqb, ltb, List, [], ◌∷◌, length, get_or, drop, set, sym, refl, ap, ◌∙◌, subst, add-one, arith, length-drop, length-set, length-take-le, get_or-drop, drop-cons, get_or-set_other, get_or-take, get_or-set_same, ext_get_or, le-ltb, lt-ltb}
+use Rattle.std.proofs.Common.{◌≡◌, ℕ, zero, suc, ◌+◌, ◌-◌, ◌*◌, ◌/◌, ◌%◌, ◌^◌, ◌<◌, ◌≤◌, min, Bool, true, false, cond, eqb, ltb, List, [], ◌∷◌, length, get_or, take, drop, set, replicate, ◌++◌, append_assoc, length-append, take-append-drop, sym, refl, ap, ◌∙◌, subst, arith, length-drop, length-set, ltb-true, ltb-false, length-take-le, get_or-drop, get_or-set_other, get_or-take, get_or-set_same, ext_get_or, le-ltb, lt-ltb}
+use borrow.Rule.Slice.PartMut.{put_mid, post_of}
+use Rattle.std.proofs.Math.ListN.{get_or-append}
+use Rattle.std.proofs.lemmas.List.{drop-drop, take_more_set, drop-set-lt, get_or-append_right, get_or-replicate}
 use Rattle.words.specs.Runs.{Small}
 use Rattle.store.specs.Layout.{slots, entry_words, bit_of, next_of, field, key_length_at, key_at, block_at}
 use Rattle.store.specs.Entry.{entry_word, list_from, entry_of, put_from, put_entry, bumped}
@@ -56,27 +59,23 @@ pub entry_there : (i j : ℕ) (es d : List ℕ) (k : ℕ) → length es ≡ 96 �
 unfolding field
 entry_there i j es d k le ne hk = put_other (i * 96) es d (j * 96 + k) (λ lo hi. ne (omega arith))
 
--- one turn of the loop
-pub put_turn : (p k : ℕ) (es d : List ℕ) → k < length es → put_from (p + (k + 1)) (drop (k + 1) es) (set d (p + k) (get_or es k 0)) ≡ put_from (p + k) (drop k es) d
+put_from_is : (p : ℕ) (es d : List ℕ) → p + length es ≤ length d → put_from p es d ≡ take p d ++ (es ++ drop (p + length es) d)
 unfolding put_from
-put_turn p k es d h =
-    ap (λ n. put_from n (drop (k + 1) es) (set d (p + k) (get_or es k 0))) {x = p + (k + 1)} {y = p + k + 1} (omega arith)
-    ∙ sym (ap (λ xs. put_from (p + k) xs d) (drop-cons es k 0 h ∙ ap (λ j. get_or es k 0 ∷ drop j es) (sym (add-one k))))
+put_from_is p [] d fits = sym (take-append-drop p d) ∙ ap (λ k. take p d ++ drop k d) {x = p} {y = p + 0} (omega arith)
+put_from_is p (e ∷ es) d fits =
+    let inside : p < length d = omega arith in
+    put_from_is (p + 1) es (set d p e) (let l = length-set d p e in omega arith)
+    ∙ ap (λ xs. xs ++ (es ++ drop (p + 1 + length es) (set d p e))) (take_more_set d p e inside)
+    ∙ append_assoc (take p d) (e ∷ []) (es ++ drop (p + 1 + length es) (set d p e))
+    ∙ ap (λ xs. take p d ++ (e ∷ (es ++ xs))) (drop-set-lt (p + 1 + length es) d p e (omega arith) ∙ ap (λ k. drop k d) {x = p + 1 + length es} {y = p + suc (length es)} (omega arith))
 
-pub put_end : (p k : ℕ) (es d : List ℕ) → length es ≤ k → put_from p (drop k es) d ≡ d
-unfolding put_from
-put_end p k es d h = ap (λ xs. put_from p xs d) (past k es h)
-  where
-    past : (i : ℕ) (ws : List ℕ) → length ws ≤ i → drop i ws ≡ []
-    past zero [] h = refl
-    past (suc i) [] h = refl
-    past zero (w ∷ ws) h = absurd (omega arith)
-    past (suc i) (w ∷ ws) h = past i ws (omega arith)
-
-pub get_past : (xs : List ℕ) (k : ℕ) → length xs ≤ k → get_or xs k 0 ≡ 0
-get_past [] k h = refl
-get_past (x ∷ xs) zero h = absurd (omega arith)
-get_past (x ∷ xs) (suc k) h = get_past xs k (omega arith)
+-- the words of a slot written over
+pub put_mid-put : (i : ℕ) (d : List ℕ) {ys : List ℕ} (es : List ℕ) → ys ≡ es → length es ≡ 96 → i * 96 + 96 ≤ length d → put_mid (i * 96) (i * 96 + 96 - i * 96) d ys ≡ put_entry i es d
+put_mid-put i d {ys} es same long fits =
+    let p = i * 96 in
+    ap (λ xs. take p d ++ (xs ++ drop (p + 96 - p) (drop p d))) same
+    ∙ ap (λ xs. take p d ++ (es ++ xs)) (drop-drop (p + 96 - p) p d ∙ ap (λ k. drop k d) {x = p + (p + 96 - p)} {y = p + length es} (omega arith))
+    ∙ sym (put_from_is p es d (omega arith))
 
 -- keys ---------------------------------------------------------------------------
 
@@ -119,6 +118,81 @@ entry_letter id size key bs k =
     ∙ ap (λ t. cond t (get_or bs (32 + k - 8) 0) (cond (ltb (32 + k) 32) 0 (get_or key (32 + k - 32) 0))) (le-ltb (32 + k) 26 (omega arith))
     ∙ ap (λ t. cond t 0 (get_or key (32 + k - 32) 0)) (le-ltb (32 + k) 32 (omega arith))
     ∙ ap (λ j. get_or key j 0) {x = 32 + k - 32} {y = k} (omega arith)
+
+entry_gap : (id size : ℕ) (key bs : List ℕ) (k : ℕ) → k < 6 → entry_word id size key bs (26 + k) ≡ 0
+entry_gap id size key bs k h =
+    ap (λ t. cond t (cond (eqb (26 + k) 0) id (cond (eqb (26 + k) 1) size (cond (eqb (26 + k) 2) (length key) 0))) (cond (ltb (26 + k) 26) (get_or bs (26 + k - 8) 0) (cond (ltb (26 + k) 32) 0 (get_or key (26 + k - 32) 0)))) (le-ltb (26 + k) 8 (omega arith))
+    ∙ ap (λ t. cond t (get_or bs (26 + k - 8) 0) (cond (ltb (26 + k) 32) 0 (get_or key (26 + k - 32) 0))) (le-ltb (26 + k) 26 (omega arith))
+    ∙ ap (λ t. cond t 0 (get_or key (26 + k - 32) 0)) (lt-ltb (26 + k) 32 (omega arith))
+
+-- the room for a key, behind eighteen blocks
+pub key_room : (ys : List ℕ) → length ys ≡ 18 → length (take 64 (drop 24 (ys ++ replicate 70 0))) ≡ 64
+key_room ys long =
+    let l = length-append ys (replicate 70 0) in
+    let d = length-drop 24 (ys ++ replicate 70 0) in
+    length-take-le 64 (drop 24 (ys ++ replicate 70 0)) (omega (arith, long))
+
+-- an entry put together of its parts
+pub entry_parts : (id size : ℕ) (key bs ys zs : List ℕ) → ys ≡ bs → length bs ≡ 18 → length zs ≡ 64 → ((k : ℕ) → k < length zs → get_or zs k 0 ≡ get_or key k 0)
+    → put_mid 32 64 (put_mid 8 18 (set (set (set (replicate 96 0) 0 id) 1 size) 2 (length key)) ys) zs ≡ entry_of id size key bs
+entry_parts id size key bs ys zs same long long' each =
+    entry_is id size key bs (put_mid 32 64 (put_mid 8 18 w ys) zs) whole place
+  where
+    w : List ℕ
+    w = set (set (set (replicate 96 0) 0 id) 1 size) 2 (length key)
+
+    zeros : List ℕ
+    zeros = replicate 70 0
+
+    rest : List ℕ
+    rest = post_of 32 64 (put_mid 8 18 w ys)
+
+    front : List ℕ
+    front = take 24 (ys ++ zeros)
+
+    ys_long : length ys ≡ 18
+    ys_long = ap length same ∙ long
+
+    front_long : length front ≡ 24
+    front_long = length-take-le 24 (ys ++ zeros) (let l = length-append ys zeros in omega (arith, ys_long))
+
+    whole : length (put_mid 32 64 (put_mid 8 18 w ys) zs) ≡ 96
+    whole =
+        let l = length-append front (zs ++ rest) in
+        let l' = length-append zs rest in
+        let r = length-drop 64 (drop 24 (ys ++ zeros)) in
+        let r' = length-drop 24 (ys ++ zeros) in
+        let y = length-append ys zeros in
+        omega (arith, ys_long, front_long)
+
+    front_is : (j : ℕ) → j < 24 → get_or (front ++ (zs ++ rest)) j 0 ≡ get_or (ys ++ zeros) j 0
+    front_is j h = get_or-append front (zs ++ rest) 0 j (omega (arith, front_long)) ∙ get_or-take 24 (ys ++ zeros) j 0 h
+
+    tail : (j : ℕ) → j < 88 → (a b : Bool) → ltb j 18 ≡ a → ltb j 24 ≡ b → get_or (front ++ (zs ++ rest)) j 0 ≡ entry_word id size key bs (8 + j)
+    tail j h true b p q =
+        let low : j < 18 = ltb-true j 18 p in
+        front_is j (omega arith) ∙ get_or-append ys zeros 0 j (omega (arith, ys_long)) ∙ ap (λ xs. get_or xs j 0) same ∙ sym (entry_block id size key bs j low)
+    tail j h false true p q =
+        let high : 18 ≤ j = ltb-false j 18 p in
+        let low : j < 24 = ltb-true j 24 q in
+        front_is j low ∙ get_or-append_right ys zeros 18 j 0 ys_long high ∙ get_or-replicate 70 (j - 18) 0 0 (omega arith)
+        ∙ sym (entry_gap id size key bs (j - 18) (omega arith)) ∙ ap (entry_word id size key bs) {x = 26 + (j - 18)} {y = 8 + j} (omega arith)
+    tail j h false false p q =
+        let high : 24 ≤ j = ltb-false j 24 q in
+        get_or-append_right front (zs ++ rest) 24 j 0 front_long high ∙ get_or-append zs rest 0 (j - 24) (omega arith) ∙ each (j - 24) (omega arith)
+        ∙ sym (entry_letter id size key bs (j - 24)) ∙ ap (entry_word id size key bs) {x = 32 + (j - 24)} {y = 8 + j} (omega arith)
+
+    place : (k : ℕ) → k < 96 → get_or (put_mid 32 64 (put_mid 8 18 w ys) zs) k 0 ≡ entry_word id size key bs k
+    place zero h = refl
+    place (suc zero) h = refl
+    place (suc (suc zero)) h = refl
+    place (suc (suc (suc zero))) h = refl
+    place (suc (suc (suc (suc zero)))) h = refl
+    place (suc (suc (suc (suc (suc zero))))) h = refl
+    place (suc (suc (suc (suc (suc (suc zero)))))) h = refl
+    place (suc (suc (suc (suc (suc (suc (suc zero))))))) h = refl
+    place (suc (suc (suc (suc (suc (suc (suc (suc j)))))))) h =
+        tail j (omega arith) (ltb j 18) (ltb j 24) refl refl ∙ ap (entry_word id size key bs) {x = 8 + j} {y = suc (suc (suc (suc (suc (suc (suc (suc j)))))))} (omega arith)
 
 small_by : (ws : List ℕ) → ((k : ℕ) → k < length ws → get_or ws k 0 < 18446744073709551616) → Small ws
 small_by [] h = tt

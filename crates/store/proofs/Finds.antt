@@ -1,5 +1,9 @@
 -- Loops over slots, and over a key. Assumes nothing.
-use Rattle.std.proofs.Common.{◌≡◌, ℕ, zero, suc, ◌+◌, ◌-◌, ◌<◌, ◌≤◌, Bool, true, false, cond, ◌&&◌, eqb, List, [], ◌∷◌, length, get_or, take, drop, Some, None, sym, refl, ap, ◌∙◌, add-one, arith, length-drop, length-take-le, drop-cons}
+use Rattle.std.proofs.Common.{◌≡◌, ℕ, zero, suc, ◌+◌, ◌-◌, ◌<◌, ◌≤◌, Bool, true, false, cond, ◌&&◌, eqb, List, [], ◌∷◌, length, take, drop, Some, None, refl, ap, ◌∙◌, arith, length-drop, length-take-le, ◌*◌, map}
+use Rattle.std.specs.Prelude.{sum}
+use Rattle.std.proofs.lemmas.List.Sums.{sum_by-cons}
+use Rattle.std.specs.List.{list_all, zip, range_with_len}
+use Rattle.store.specs.Layout.{used_of, size_at}
 use Rattle.plans.specs.Plan.{same_name}
 use Rattle.store.specs.Finds.{first_slot, weighs, weight_over}
 
@@ -18,33 +22,33 @@ pub first_none : (p : ℕ → Bool) (i n : ℕ) → n ≤ i → first_slot p i (
 unfolding first_slot
 first_none p i n h = let z : n - i ≡ 0 = omega arith in ap (first_slot p i) z
 
-pub weight_more : (q d : List ℕ) (i n : ℕ) → i < n → weight_over q d i (n - i) ≡ weighs q d i + weight_over q d (i + 1) (n - (i + 1))
+weighs_low : (q d : List ℕ) (i : ℕ) → weighs q d i ≤ 81920
+weighs_low q d i = go (eqb (used_of q i) 1)
+  where
+    go : (b : Bool) → cond b (16384 + 16 * size_at d i) 0 ≤ 81920
+    go true = omega arith
+    go false = omega arith
+
+pub weight_low : (q d : List ℕ) (i n : ℕ) → weight_over q d i n ≤ 81920 * n
 unfolding weight_over
-weight_more q d i n h = ap (weight_over q d i) (more i n h)
+weight_low q d i zero = omega arith
+weight_low q d i (suc n) = let k = weight_low q d (i + 1) n in let w = weighs_low q d i in omega arith
 
-pub weight_none : (q d : List ℕ) (i n : ℕ) → n ≤ i → weight_over q d i (n - i) ≡ 0
+pub weight_sum : (q d : List ℕ) (i n : ℕ) → sum (map (weighs q d) (range_with_len i n)) ≡ weight_over q d i n
 unfolding weight_over
-weight_none q d i n h = let z : n - i ≡ 0 = omega arith in ap (weight_over q d i) z
+weight_sum q d i zero = refl
+weight_sum q d i (suc n) = sum_by-cons (λ v. v) (weighs q d i) (map (weighs q d) (range_with_len (i + 1) n)) ∙ ap (λ v. weighs q d i + v) (weight_sum q d (i + 1) n)
 
-cons_at : (xs : List ℕ) (i : ℕ) → i < length xs → drop i xs ≡ get_or xs i 0 ∷ drop (i + 1) xs
-cons_at xs i h = drop-cons xs i 0 h ∙ ap (λ j. get_or xs i 0 ∷ drop j xs) (sym (add-one i))
+pub weight_fits : (q d : List ℕ) (n : ℕ) → n ≤ 1024 → sum (map (weighs q d) (range_with_len 0 n)) < 18446744073709551616
+weight_fits q d n few = let l = weight_low q d 0 n in let s = weight_sum q d 0 n in omega arith
 
-pub same_next : (a b : List ℕ) (i : ℕ) (t : Bool) → i < length a → i < length b → eqb (get_or a i 0) (get_or b i 0) ≡ t
-    → same_name (drop i a) (drop i b) ≡ (t && same_name (drop (i + 1) a) (drop (i + 1) b))
+-- two names of one length are the same if each pair of letters is
+pub same_all : (a b : List ℕ) → length a ≡ length b → list_all (λ (p : ℕ × ℕ). eqb p.0 p.1) (zip a b) ≡ same_name a b
 unfolding same_name
-same_next a b i t ha hb e =
-    ap (λ x. same_name x (drop i b)) (cons_at a i ha) ∙ ap (λ y. same_name (get_or a i 0 ∷ drop (i + 1) a) y) (cons_at b i hb)
-    ∙ ap (λ s. s && same_name (drop (i + 1) a) (drop (i + 1) b)) e
-
-drop_past : (i : ℕ) (ws : List ℕ) → length ws ≤ i → drop i ws ≡ []
-drop_past zero [] h = refl
-drop_past (suc i) [] h = refl
-drop_past zero (w ∷ ws) h = absurd (omega arith)
-drop_past (suc i) (w ∷ ws) h = drop_past i ws (omega arith)
-
-pub same_end : (a b : List ℕ) (i : ℕ) → length a ≤ i → length b ≤ i → same_name (drop i a) (drop i b) ≡ true
-unfolding same_name
-same_end a b i ha hb = ap (λ x. same_name x (drop i b)) (drop_past i a ha) ∙ ap (λ y. same_name [] y) (drop_past i b hb)
+same_all [] [] e = refl
+same_all [] (y ∷ ys) e = absurd (omega arith)
+same_all (x ∷ xs) [] e = absurd (omega arith)
+same_all (x ∷ xs) (y ∷ ys) e = ap (λ t. eqb x y && t) (same_all xs ys (omega arith))
 
 pub same_long : (a b : List ℕ) → (length a ≡ length b → ⊥) → same_name a b ≡ false
 unfolding same_name
@@ -62,3 +66,8 @@ cut_length d s k h =
     let e : s + k - s ≡ k = omega arith in
     let l : length (drop s d) ≡ length d - s = length-drop s d in
     ap (λ n. length (take n (drop s d))) e ∙ length-take-le k (drop s d) (omega arith)
+
+-- k words from a place on
+pub cut_is : {d d' : List ℕ} {s s' : ℕ} (k : ℕ) → d ≡ d' → s ≡ s' → take (s + k - s) (drop s d) ≡ take k (drop s' d')
+cut_is {d} {d'} {s} {s'} k ed es =
+    ap (λ n. take n (drop s d)) {x = s + k - s} {y = k} (omega arith) ∙ ap (λ xs. take k (drop s xs)) ed ∙ ap (λ i. take k (drop i d')) es

@@ -2,6 +2,7 @@
 use Rattle.std.proofs.Common.{◌≡◌, ℕ, zero, suc, ◌+◌, ◌-◌, ◌*◌, ◌<◌, ◌≤◌, Bool, true, false, cond, eqb, ltb, leb, ◌⊎◌, List, [], ◌∷◌, ◌++◌, length, get_or, take, set, replicate, Some, None, sym, refl, ap, ◌∙◌, subst, inl, inr, arith, length-append, length-set, length-take-le, get_or-set_other, get_or-set_same, ltb-false, ltb-true, eq-eqb, ne_eqb, eqb-true, le-leb, leb-true}
 use lib.ListN.{length-replicate}
 use borrow.Author.Tests.{eqb-false}
+use Rattle.std.proofs.lemmas.List.{get_or_past}
 use Rattle.blocks.specs.Works.{blocks_in}
 use Rattle.store.specs.Layout.{used_of, size_at, block_at, blocks_for}
 use Rattle.store.specs.Shows.{Free}
@@ -237,11 +238,6 @@ take_at (suc n) k [] ys h l = absurd (omega arith)
 take_at (suc n) zero (x ∷ xs) ys h l = refl
 take_at (suc n) (suc k) (x ∷ xs) ys h l = take_at n k xs ys (omega arith) (omega arith)
 
-get_past : (xs : List ℕ) (k : ℕ) → length xs ≤ k → get_or xs k 0 ≡ 0
-get_past [] k h = refl
-get_past (x ∷ xs) zero h = absurd (omega arith)
-get_past (x ∷ xs) (suc k) h = get_past xs k (omega arith)
-
 low_append : (xs ys : List ℕ) → ((k : ℕ) → get_or xs k 0 < 18446744073709551616) → ((k : ℕ) → get_or ys k 0 < 18446744073709551616) → (k : ℕ) → get_or (xs ++ ys) k 0 < 18446744073709551616
 low_append [] ys hx hy k = hy k
 low_append (x ∷ xs) ys hx hy zero = hx 0
@@ -279,7 +275,7 @@ room_stands = record {
       where
         zero_low : (k : ℕ) (t : Bool) → ltb k (length (zeros_from (marked q d (looked_at lines)) 0)) ≡ t → get_or (zeros_from (marked q d (looked_at lines)) 0) k 0 < 18446744073709551616
         zero_low k true t = let z = zeros_at (marked q d (looked_at lines)) 0 k (ltb-true _ _ t) in omega (arith, z.1, marked_length q d (looked_at lines))
-        zero_low k false t = let e = get_past (zeros_from (marked q d (looked_at lines)) 0) k (ltb-false _ _ t) in omega arith
+        zero_low k false t = let e = get_or_past (zeros_from (marked q d (looked_at lines)) 0) k 0 (ltb-false _ _ t) in omega arith
 
         need : ℕ
         need = blocks_for size

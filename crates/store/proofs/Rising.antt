@@ -7,9 +7,9 @@ use Rattle.device.specs.Safe.{Safe, s_end, s_load}
 use Rattle.device.specs.Images.{Image, All, None, At}
 use Rattle.device.proofs.Safe.{safe_bind}
 use Rattle.device.proofs.Image.{at_fresh}
-use Rattle.words.specs.Runs.{read_from, Small}
-use Rattle.words.specs.Works.{load_words}
-use Rattle.words.proofs.Runs.{reads_ext, reads_length, safe_load_words}
+use Rattle.words.specs.Works.{load_words, from_line}
+use Rattle.words.specs.Runs.{read_via, read_from, Small}
+use Rattle.words.proofs.Runs.{reads_ext, reads_length, safe_load_via}
 use Rattle.store.specs.Layout.{slots, root_words, root_line, entry_words, entry_line, dir_words, bit_of, next_of, field, Mind}
 use Rattle.store.specs.Works.{rise_work}
 use Rattle.store.specs.Shows.{Used, Shows}
@@ -17,7 +17,7 @@ use Rattle.store.proofs.Slots.{body_dir}
 use Rattle.store.proofs.Drafts.{Held}
 
 reads_word : (g : Image) (line i n p : ℕ) → p < n → get_or (read_from g line i n) p 0 ≡ g (line + (i + p) / 8) ((i + p) % 8)
-unfolding read_from
+unfolding read_via
 reads_word g line i zero p h = absurd (omega arith)
 reads_word g line i (suc n) zero h = ap (λ k. g (line + k / 8) (k % 8)) {x = i} {y = i + 0} (omega arith)
 reads_word g line i (suc n) (suc p) h = reads_word g line (i + 1) n p (omega arith) ∙ ap (λ k. g (line + k / 8) (k % 8)) {x = i + 1 + p} {y = i + suc p} (omega arith)
@@ -43,9 +43,9 @@ unfolding rise_work
 rising {R} {Q} N x g fp pl m room a w r q =
     s_load r (omega arith) (omega arith)
     (safe_bind (rest v)
-    (safe_load_words m (root_line (v % 2)) 0 root_words r (omega arith)
+    (safe_load_via m (from_line (root_line (v % 2))) 0 root_words r (λ l h. omega arith)
     (safe_bind (last v p)
-    (safe_load_words m 16 0 dir_words r (omega arith)
+    (safe_load_via m (from_line 16) 0 dir_words r (λ l h. omega arith)
     (s_end r (subst (λ y. Q y m) same (q shows long)))))))
   where
     v : ℕ
@@ -67,16 +67,16 @@ rising {R} {Q} N x g fp pl m room a w r q =
     ev = sym w.root ∙ sym (a.shows 0 0)
 
     ep : x.page ≡ p
-    ep = sym w.rooted ∙ sym (reads_ext (seen m) g (root_line (x.word % 2)) 0 root_words (λ k z. a.shows _ _)) ∙ ap (λ u. read_from (seen m) (root_line (u % 2)) 0 root_words) ev
+    ep = sym w.rooted ∙ sym (reads_ext (seen m) g (from_line (root_line (x.word % 2))) 0 root_words (λ k z. a.shows _ _)) ∙ ap (λ u. read_from (seen m) (root_line (u % 2)) 0 root_words) ev
 
     ed : read_from g 16 0 dir_words ≡ d
-    ed = sym (reads_ext (seen m) g 16 0 dir_words (λ k z. a.shows _ _))
+    ed = sym (reads_ext (seen m) g (from_line 16) 0 dir_words (λ k z. a.shows _ _))
 
     same : risen N x g ≡ record { lines = N; now = 0; word = v; page = p; dir = d }
     same = λ i. record { lines = N; now = 0; word = ev i; page = ep i; dir = ed i }
 
     long : length (read_from g 16 0 dir_words) ≡ dir_words
-    long = reads_length g 16 0 dir_words
+    long = reads_length g (from_line 16) 0 dir_words
 
     shows : Shows N g (risen N x g) fp pl
     shows = record {
@@ -92,13 +92,13 @@ abbrev pub new_mind : ℕ → Mind
 new_mind N = record { lines = N; now = 0; word = 0; page = read_from (λ l w. 0) 1 0 root_words; dir = read_from (λ l w. 0) 16 0 dir_words }
 
 reads_zero : (line i n k : ℕ) → get_or (read_from (λ l w. 0) line i n) k 0 ≡ 0
-unfolding read_from
+unfolding read_via
 reads_zero line i zero k = refl
 reads_zero line i (suc n) zero = refl
 reads_zero line i (suc n) (suc k) = reads_zero line (i + 1) n k
 
 zeros_small : (line i n : ℕ) → Small (read_from (λ l w. 0) line i n)
-unfolding read_from
+unfolding read_via
 zeros_small line i zero = tt
 zeros_small line i (suc n) = (omega arith, zeros_small line (i + 1) n)
 
@@ -131,4 +131,4 @@ pub fresh_next : 1 ≡ next_of (read_from (λ l w. 0) 1 0 root_words)
 fresh_next = ap (λ v. v + 1) (sym (reads_zero 1 0 root_words 0))
 
 pub fresh_long : length (read_from (λ l w. 0) 16 0 dir_words) ≡ dir_words
-fresh_long = reads_length (λ l w. 0) 16 0 dir_words
+fresh_long = reads_length (λ l w. 0) (from_line 16) 0 dir_words

@@ -1,7 +1,8 @@
 -- The same work by other names. Assumes nothing.
 use Rattle.std.proofs.Common.{◌≡◌, ℕ, List, subst}
 use Rattle.device.specs.Does.{Op, Did}
-use Rattle.blocks.specs.Works.{line_in, load_via, save_via}
+use Rattle.words.specs.Works.{load_via, save_via}
+use Rattle.blocks.specs.Works.{line_in}
 
 module _ {S : Type 0} (step : S → Op → S → Type 0) {s t : S} {T T' : ℕ} {B B' : List ℕ} {n n' : ℕ} (eT : T ≡ T') (eB : B ≡ B') (en : n ≡ n') where
   pub load_same : {out : List ℕ} → Did step (load_via (line_in T B) 0 n) s out t → Did step (load_via (line_in T' B') 0 n') s out t

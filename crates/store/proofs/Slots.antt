@@ -3,7 +3,7 @@ use Rattle.std.proofs.Common.{◌≡◌, ℕ, zero, suc, ◌+◌, ◌*◌, ◌/�
 use borrow.Author.Tests.{both_ways}
 use Rattle.device.specs.Images.{Image}
 use Rattle.blocks.specs.Works.{block_line, blocks_in}
-use Rattle.blocks.specs.Runs.{read_via}
+use Rattle.words.specs.Runs.{read_via}
 use Rattle.store.specs.Layout.{entry_words, entry_line, page_words, pick_of, field, size_at, block_at, blocks_for, page_at, plan_at}
 use Rattle.store.specs.Shows.{Used, Sane, Body, Free}
 use Rattle.store.proofs.Turns.{bit_low}

@@ -6,12 +6,11 @@ use Rattle.device.specs.Safe.{Safe}
 use Rattle.device.specs.Images.{Image}
 use Rattle.device.specs.Flips.{Amid}
 use Rattle.device.proofs.Safe.{safe_bind, safe_more}
-use Rattle.words.specs.Runs.{puts, Small}
-use Rattle.words.proofs.Drafting.{drafting_save, reads_here}
+use Rattle.words.specs.Works.{from_line}
+use Rattle.words.specs.Runs.{read_via, puts, put_via, Each, Small}
+use Rattle.words.proofs.Runs.{reads_ext, reads_puts, puts_line}
+use Rattle.words.proofs.Drafting.{drafting_save_via, reads_here}
 use Rattle.blocks.specs.Works.{block_line, blocks_in, line_in}
-use Rattle.blocks.specs.Runs.{read_via, put_via, Each}
-use Rattle.blocks.proofs.Runs.{reads_ext, reads_puts, puts_line}
-use Rattle.blocks.proofs.Drafting.{drafting_save_via}
 use Rattle.store.specs.Layout.{slots, root_words, entry_words, entry_lines, entry_line, page_words, page_lines, used_of, pick_of, field, size_at, block_at, page_blocks, plan_blocks, blocks_for, page_at, plan_at, Mind}
 use Rattle.store.specs.Works.{save_entry, save_plan, save_page}
 use Rattle.store.specs.Shows.{Used, Free, Counts}
@@ -64,13 +63,13 @@ module _ {N : ℕ} {x : Mind} {g : Image} {fp pl : ℕ → List ℕ} {m : Lines}
       (λ o3 r3. r3)
       (drafting_save_via d2 page_l page_lines ws
       (λ j k cj hk. subst (λ l. eqb j l ≡ false) (sym (page_is k (omega arith))) (cj.3 (block_at d i c) k (new.free c (omega arith)) (omega arith)))
-      (omega arith) (λ l. line_in_lem N l _ room) sw calm))
+      (omega arith) (λ l z. line_in_lem N l _ room) sw calm))
       (λ o2 r2. r2)
       (drafting_save_via d1 plan_l plan_n plan
       (λ j k cj hk. subst (λ l. eqb j l ≡ false) (sym (plan_is k hk)) (cj.3 (block_at d i (2 + k / 128)) (k % 128) (new.free (2 + k / 128) (plan_block k hk)) (omega arith)))
-      (omega arith) (λ l. line_in_lem N l _ room) sp calm)))
+      (omega arith) (λ l z. line_in_lem N l _ room) sp calm)))
       (λ o r. r)
-      (drafting_save w.drafting (entry_line i) entry_lines es
+      (drafting_save_via w.drafting (from_line (entry_line i)) entry_lines es
       (λ j k cj hk. cj.2 i k new.inside new.unused hk) (omega (arith, new.long)) (let z = new.inside in omega arith) new.small calm))
     where
       s : ℕ

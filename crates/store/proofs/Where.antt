@@ -1,10 +1,11 @@
 -- Where pages and plans stand, and that what counts is apart from what does not. Assumes nothing.
-use Rattle.std.proofs.Common.{◌≡◌, ℕ, ◌+◌, ◌-◌, ◌*◌, ◌/◌, ◌%◌, ◌<◌, ◌≤◌, Bool, true, false, cond, ltb, List, get_or, take, drop, sym, refl, ap, ◌∙◌, arith, get_or-drop, get_or-take, ltb-true, lt-ltb, eq-eqb, ne_eqb}
+use Rattle.std.proofs.Common.{◌≡◌, ℕ, ◌+◌, ◌-◌, ◌*◌, ◌/◌, ◌%◌, ◌<◌, ◌≤◌, cond, List, get_or, take, drop, sym, refl, ap, ◌∙◌, arith, get_or-drop, get_or-take, lt-ltb, eq-eqb, ne_eqb}
 use borrow.Author.Tests.{both_ways}
 use Rattle.device.specs.Images.{Image, Agree}
-use Rattle.words.proofs.Runs.{reads_ext as words-ext}
+use Rattle.words.specs.Works.{from_line}
+use Rattle.words.proofs.Runs.{reads_ext}
 use Rattle.blocks.specs.Works.{block_line, blocks_in, inside, line_in}
-use Rattle.blocks.proofs.Runs.{reads_ext}
+use Rattle.blocks.specs.Below.{line_in_below}
 use Rattle.store.specs.Layout.{root_words, root_line, entry_lines, entry_line, page_words, bit_of, used_of, pick_of, field, size_at, block_at, page_blocks, plan_blocks, blocks_for, page_at, plan_at, Mind}
 use Rattle.store.specs.Shows.{Used, Sane, Body, Shows, Counts}
 use Rattle.store.proofs.Turns.{bit_low}
@@ -35,12 +36,7 @@ plan_line N i l d low h =
 
 -- whatever the words are, such lines are inside the memory
 pub line_in_lem : (N l : ℕ) (bs : List ℕ) → 32768 ≤ N → line_in (blocks_in N) bs l < N
-unfolding line_in
-line_in_lem N l bs h = go (ltb (get_or bs (l / 128) 0) (blocks_in N)) refl
-  where
-    go : (b : Bool) → ltb (get_or bs (l / 128) 0) (blocks_in N) ≡ b → block_line (cond b (get_or bs (l / 128) 0) 0) + l % 128 < N
-    go true e = let k = ltb-true (get_or bs (l / 128) 0) (blocks_in N) e in omega arith
-    go false e = omega arith
+line_in_lem N l bs h = let low = line_in_below (blocks_in N) bs l (omega arith) in omega arith
 
 -- a line that the state rests on, behind the root
 pub data On (q d : List ℕ) (j : ℕ) : Type 0 where
@@ -123,7 +119,7 @@ pub shows_agree : (N : ℕ) (g h : Image) (x : Mind) (fp pl : ℕ → List ℕ) 
 shows_agree N g h x fp pl s e = record {
   lines = s.lines;
   root = e 0 0 (counts_word x) ∙ s.root;
-  rooted = words-ext h g (root_line (x.word % 2)) 0 root_words (λ k z. e _ _ (counts_root x k z)) ∙ s.rooted;
+  rooted = reads_ext h g (from_line (root_line (x.word % 2))) 0 root_words (λ k z. e _ _ (counts_root x k z)) ∙ s.rooted;
   small = s.small;
   body = body_ext N g h x.page x.dir fp pl s.body (λ j w o. e j w (counts_on N x j s.body.sane o));
 }

@@ -1,9 +1,8 @@
 -- What an image of the memory stands for, and which of its lines that rests on. Assumes nothing.
 use Rattle.std.specs.Prelude.{◌≡◌, ℕ, ◌+◌, ◌-◌, ◌*◌, ◌/◌, ◌%◌, ◌<◌, ◌≤◌, false, List, ◌==◌}
 use Rattle.device.specs.Images.{Image}
-use Rattle.words.specs.Runs.{read_from, Small}
+use Rattle.words.specs.Runs.{read_via, read_from, Small}
 use Rattle.blocks.specs.Works.{block_line, blocks_in}
-use Rattle.blocks.specs.Runs.{read_via}
 use Rattle.store.specs.Layout.{slots, root_words, root_lines, root_line, entry_words, entry_lines, entry_line, page_words, used_of, pick_of, field, size_at, block_at, blocks_for, page_at, plan_at, Mind}
 
 -- a slot in use

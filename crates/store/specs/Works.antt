@@ -3,8 +3,7 @@ use Rattle.std.specs.Prelude.{ℕ, ◌+◌, ◌-◌, ◌*◌, ◌/◌, ◌%◌, 
 use Rattle.device.specs.Lines.{Work, yields, load}
 use Rattle.device.specs.Does.{bind}
 use Rattle.device.specs.Flips.{commit_work}
-use Rattle.words.specs.Works.{load_words, save_words}
-use Rattle.blocks.specs.Works.{load_via, save_via}
+use Rattle.words.specs.Works.{load_via, save_via, load_words, save_words}
 use Rattle.store.specs.Layout.{root_words, root_lines, root_line, entry_lines, entry_line, dir_words, page_words, page_lines, pick_of, size_at, page_at, plan_at, Mind}
 
 -- rising only loads: the root word, the root page that it picks, the directory

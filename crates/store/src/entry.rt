@@ -1,40 +1,18 @@
 // A new entry of the directory.
-ghost use Rattle.std.specs.Prelude.{◌≡◌, ℕ, ◌+◌, ◌*◌, ◌<◌, ◌≤◌, length, slice_index};
+ghost use Rattle.std.specs.Prelude.{◌≡◌, ℕ, ◌+◌, ◌<◌, ◌≤◌, length, EachIndex, slice_index};
 ghost use Rattle.store.specs.Layout.{next_of};
-ghost use Rattle.store.specs.Entry.{entry_word, entry_of, put_entry, bumped};
+ghost use Rattle.store.specs.Entry.{entry_of, bumped};
 
-use crate::dir::ENTRY_WORDS;
+use crate::dir::{BLOCKS, ID, KEY, KEY_LENGTH, SIZE};
 
-// A byte of a key; there are zeros behind it.
-fn byte_at(key: &[u8], at: usize) -> u64
-    ensures { result ≡ slice_index key.now at }
+// Writes the bytes of a key, one into each word, and zeros behind it.
+fn spell(key: &[u8], words: &mut [u64])
+    ensures len { length words.new ≡ length words.old }
+    ensures bytes { EachIndex words.new (λ k. slice_index words.new k ≡ slice_index key.now k) }
 {
-    if at < key.len() {
-        u64::from(key[at])
-    } else {
-        0
+    for (k, word) in words.iter_mut().enumerate() {
+        *word = key.get(k).map_or(0, |byte| u64::from(*byte));
     }
-}
-
-fn entry_word(id: u64, size: u64, key: &[u8], blocks: &[u64; 18], k: usize) -> u64
-    requires { k < 96 }
-    ensures { result ≡ entry_word id size key.now blocks.now k }
-{
-    if k < 8 {
-        return match k {
-            0 => id,
-            1 => size,
-            2 => key.len() as u64,
-            _ => 0,
-        };
-    }
-    if k < 26 {
-        return blocks[k - 8];
-    }
-    if k < 32 {
-        return 0;
-    }
-    byte_at(key, k - 32)
 }
 
 // The entry of a flow with this number, a plan of this size, this key and these blocks.
@@ -42,21 +20,12 @@ pub fn entry_of(id: u64, size: u64, key: &[u8], blocks: &[u64; 18]) -> [u64; 96]
     ensures { result ≡ entry_of id size key.now blocks.now }
 {
     let mut words = [0; 96];
-    for k in 0..ENTRY_WORDS {
-        words[k] = entry_word(id, size, key, blocks, k);
-    }
+    words[ID] = id;
+    words[SIZE] = size;
+    words[KEY_LENGTH] = key.len() as u64;
+    words[BLOCKS..BLOCKS + 18].copy_from_slice(blocks);
+    spell(key, &mut words[KEY..]);
     words
-}
-
-// The directory shall have this entry for a slot.
-pub fn put_entry(dir: &mut [u64], slot: usize, words: &[u64; 96])
-    requires long { length dir.old ≡ 98304 }
-    requires within { slot < 1024 }
-    ensures { dir.new ≡ put_entry slot words.now dir.old }
-{
-    for k in 0..ENTRY_WORDS {
-        dir[slot * ENTRY_WORDS + k] = words[k];
-    }
 }
 
 // One number more is given out.

@@ -4,9 +4,10 @@ ghost use Rattle.device.specs.Does.{Did};
 ghost use Rattle.store.specs.Layout.{Mind, size_at};
 ghost use Rattle.store.specs.Works.{rise_work, load_page, load_plan, save_page, save_entry, save_plan, flip_to};
 
-use crate::dir::{DIR_WORDS, page_blocks, plan_blocks};
+use crate::dir::Dir;
 use crate::root::pick;
-use blocks::{blocks_in, load_blocks, save_blocks};
+use crate::slot::{PageCopy, Slot};
+use blocks::{Blocks, blocks_in};
 use device::Device;
 use words::{flip, load_words, save_words};
 
@@ -19,16 +20,15 @@ pub const MOST_LINES: u64 = 1099511627776;
 pub const PAGE_WORDS: usize = 128;
 
 // Loads the root word, the root page that it picks, and the directory.
-pub fn rise<D: Device>(dev: &mut D, root: &mut [u64; 40], dir: &mut [u64]) -> u64
+pub fn rise<D: Device>(dev: &mut D, root: &mut [u64; 40], dir: &mut Dir) -> u64
     requires fits { 32768 ≤ D.size dev.old }
     requires few { D.size dev.old ≤ 1099511627776 }
-    requires long { length dir.old ≡ 98304 }
     ensures did { Did D.step (rise_work (D.size dev.old)) dev.old (record { lines = D.size dev.old; now = 0; word = result; page = root.new; dir = dir.new }) dev.new }
     ensures stays { D.size dev.new ≡ D.size dev.old }
 {
     let word = dev.load(0, 0);
     load_words(dev, 1 + word % 2 * 5, root);
-    load_words(dev, 16, dir);
+    load_words(dev, 16, &mut dir.words);
     word
 }
 
@@ -36,79 +36,73 @@ pub fn rise<D: Device>(dev: &mut D, root: &mut [u64; 40], dir: &mut [u64]) -> u6
 pub fn load_page<D: Device>(
     dev: &mut D,
     root: &[u64; 40],
-    dir: &[u64],
-    slot: usize,
-    out: &mut [u64],
+    dir: &Dir,
+    slot: Slot,
+    out: &mut [u64; 128],
 )
     requires fits { 32768 ≤ D.size dev.old }
     requires few { D.size dev.old ≤ 1099511627776 }
-    requires long { length dir.now ≡ 98304 }
-    requires within { slot < 1024 }
-    requires whole { length out.old ≡ 128 }
     ensures did { Did D.step (load_page (D.size dev.old) root.now dir.now slot) dev.old out.new dev.new }
     ensures stays { D.size dev.new ≡ D.size dev.old }
 {
-    let total = blocks_in(dev.lines());
-    let copy = pick(root, slot);
-    let blocks = page_blocks(dir, slot, copy);
-    load_blocks(dev, total, blocks, out);
+    let blocks = Blocks {
+        total: blocks_in(dev.lines()),
+        blocks: dir.page_blocks(slot, pick(root, slot)),
+    };
+    blocks.load(dev, out);
 }
 
 // A slot's plan, of which `out` has the length.
-pub fn load_plan<D: Device>(dev: &mut D, dir: &[u64], slot: usize, out: &mut [u64])
+pub fn load_plan<D: Device>(dev: &mut D, dir: &Dir, slot: Slot, out: &mut [u64])
     requires fits { 32768 ≤ D.size dev.old }
     requires few { D.size dev.old ≤ 1099511627776 }
-    requires long { length dir.now ≡ 98304 }
-    requires within { slot < 1024 }
     requires whole { length out.old ≡ 4 * size_at dir.now slot }
     ensures did { Did D.step (load_plan (D.size dev.old) dir.now slot) dev.old out.new dev.new }
     ensures stays { D.size dev.new ≡ D.size dev.old }
 {
-    let total = blocks_in(dev.lines());
-    let blocks = plan_blocks(dir, slot);
-    load_blocks(dev, total, blocks, out);
+    let blocks = Blocks {
+        total: blocks_in(dev.lines()),
+        blocks: dir.plan_blocks(slot),
+    };
+    blocks.load(dev, out);
 }
 
 // Writes a copy of a slot's page, and pushes it.
-pub fn save_page<D: Device>(dev: &mut D, dir: &[u64], slot: usize, copy: usize, words: &[u64])
+pub fn save_page<D: Device>(dev: &mut D, dir: &Dir, slot: Slot, copy: PageCopy, words: &[u64; 128])
     requires fits { 32768 ≤ D.size dev.old }
     requires few { D.size dev.old ≤ 1099511627776 }
-    requires long { length dir.now ≡ 98304 }
-    requires within { slot < 1024 }
-    requires one { copy < 2 }
-    requires whole { length words.now ≡ 128 }
     ensures did { Did D.step (save_page (D.size dev.old) dir.now slot copy words.now) dev.old tt dev.new }
     ensures stays { D.size dev.new ≡ D.size dev.old }
 {
-    let total = blocks_in(dev.lines());
-    let blocks = page_blocks(dir, slot, copy);
-    save_blocks(dev, total, blocks, words);
+    let blocks = Blocks {
+        total: blocks_in(dev.lines()),
+        blocks: dir.page_blocks(slot, copy),
+    };
+    blocks.save(dev, words);
 }
 
 // Writes a new plan into its blocks, and pushes it.
-pub fn save_plan<D: Device>(dev: &mut D, dir: &[u64], slot: usize, words: &[u64])
+pub fn save_plan<D: Device>(dev: &mut D, dir: &Dir, slot: Slot, words: &[u64])
     requires fits { 32768 ≤ D.size dev.old }
     requires few { D.size dev.old ≤ 1099511627776 }
-    requires long { length dir.now ≡ 98304 }
-    requires within { slot < 1024 }
     requires short { length words.now ≤ 16384 }
     ensures did { Did D.step (save_plan (D.size dev.old) dir.now slot words.now) dev.old tt dev.new }
     ensures stays { D.size dev.new ≡ D.size dev.old }
 {
-    let total = blocks_in(dev.lines());
-    let blocks = plan_blocks(dir, slot);
-    save_blocks(dev, total, blocks, words);
+    let blocks = Blocks {
+        total: blocks_in(dev.lines()),
+        blocks: dir.plan_blocks(slot),
+    };
+    blocks.save(dev, words);
 }
 
 // Writes the entry of a slot that is not in use, and pushes it.
-pub fn save_entry<D: Device>(dev: &mut D, slot: usize, entry: &[u64])
+pub fn save_entry<D: Device>(dev: &mut D, slot: Slot, entry: &[u64; 96])
     requires fits { 32768 ≤ D.size dev.old }
-    requires within { slot < 1024 }
-    requires whole { length entry.now ≡ 96 }
     ensures did { Did D.step (save_entry slot entry.now) dev.old tt dev.new }
     ensures stays { D.size dev.new ≡ D.size dev.old }
 {
-    save_words(dev, 16 + slot as u64 * 12, 12, entry);
+    save_words(dev, 16 + slot.number() as u64 * 12, 12, entry);
 }
 
 // Writes the other root page, and then has it count.

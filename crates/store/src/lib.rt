@@ -6,3 +6,4 @@ pub mod entry;
 pub mod keep;
 pub mod room;
 pub mod root;
+pub mod slot;

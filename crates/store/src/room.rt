@@ -3,8 +3,9 @@ ghost use Rattle.std.specs.Prelude.{◌≡◌, ℕ, ◌+◌, ◌*◌, ◌/◌, �
 ghost use Rattle.store.specs.Layout.{size_at, block_at, blocks_for};
 ghost use Rattle.store.specs.Room.{mark_blocks, mark_slot, marked, zeros_from, chosen, RoomStands};
 
-use crate::dir::{block_at, size_at};
-use crate::root::{SLOTS, is_used};
+use crate::dir::Dir;
+use crate::root::is_used;
+use crate::slot::{SLOTS, Slot};
 
 // The blocks of a flow: two for its page, and the others for its plan. No flow has more than these.
 pub const MOST_BLOCKS: usize = 18;
@@ -21,37 +22,25 @@ pub fn blocks_for(size: usize) -> usize
     2 + size.div_ceil(256)
 }
 
-fn clear(marks: &mut [u64])
-    ensures { marks.new ≡ replicate (length marks.old) 0 }
-{
-    for mark in marks.iter_mut() {
-        *mark = 0;
-    }
-}
-
 fn mark_block(marks: &mut [u64], block: u64)
     ensures { marks.new ≡ slice_set marks.old block 1 }
 {
+    // no `get_mut`, whose contract says nothing of the slice after the write
     if block < marks.len() as u64 {
         marks[block as usize] = 1;
     }
 }
 
 // Marks the blocks of a slot.
-fn mark_blocks(dir: &[u64], slot: usize, marks: &mut [u64])
-    requires long { length dir.now ≡ 98304 }
-    requires within { slot < 1024 }
+fn mark_blocks(dir: &Dir, slot: Slot, marks: &mut [u64])
     ensures { marks.new ≡ mark_blocks dir.now slot 0 (blocks_for (size_at dir.now slot)) marks.old }
 {
-    let count = blocks_for(size_at(dir, slot));
-    for k in 0..count {
-        mark_block(marks, block_at(dir, slot, k));
+    for k in 0..blocks_for(dir.size_at(slot)) {
+        mark_block(marks, dir.block_at(slot, k));
     }
 }
 
-fn mark_slot(root: &[u64; 40], dir: &[u64], slot: usize, marks: &mut [u64])
-    requires long { length dir.now ≡ 98304 }
-    requires within { slot < 1024 }
+fn mark_slot(root: &[u64; 40], dir: &Dir, slot: Slot, marks: &mut [u64])
     ensures { marks.new ≡ mark_slot root.now dir.now slot marks.old }
 {
     if is_used(root, slot) {
@@ -60,13 +49,12 @@ fn mark_slot(root: &[u64; 40], dir: &[u64], slot: usize, marks: &mut [u64])
 }
 
 // Marks by 1 the blocks that the slots in use have, of as many as there are marks, and all others by 0.
-pub fn mark(root: &[u64; 40], dir: &[u64], marks: &mut [u64])
-    requires { length dir.now ≡ 98304 }
+pub fn mark(root: &[u64; 40], dir: &Dir, marks: &mut [u64])
     ensures { marks.new ≡ marked root.now dir.now (length marks.old) }
 {
-    clear(marks);
-    for slot in 0..SLOTS {
-        mark_slot(root, dir, slot, marks);
+    marks.fill(0);
+    for i in 0..SLOTS {
+        mark_slot(root, dir, Slot::new(i), marks);
     }
 }
 
@@ -77,8 +65,8 @@ pub fn choose(marks: &[u64], need: usize) -> Option<[u64; 18]>
 {
     let mut blocks = [0; 18];
     let mut count = 0;
-    for b in 0..marks.len() {
-        if count < need && marks[b] == 0 {
+    for (b, mark) in marks.iter().enumerate() {
+        if count < need && *mark == 0 {
             blocks[count] = b as u64;
             count += 1;
         }

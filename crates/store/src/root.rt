@@ -2,8 +2,7 @@
 ghost use Rattle.std.specs.Prelude.{◌≡◌, ℕ, ◌+◌, ◌<◌, ◌≤◌, length, ◌==◌};
 ghost use Rattle.store.specs.Layout.{bit_of, turn_at, used_of, pick_of};
 
-// A slot is a place for one flow.
-pub const SLOTS: usize = 1024;
+use crate::slot::{PageCopy, Slot};
 
 pub const ROOT_WORDS: usize = 40;
 
@@ -12,50 +11,45 @@ pub const USED: usize = 1;
 
 pub const PICK: usize = 17;
 
-fn bit(page: &[u64; 40], off: usize, slot: usize) -> u64
-    requires within { slot < 1024 }
-    requires inside { off ≤ 17 }
+fn bit(page: &[u64; 40], off: usize, slot: Slot) -> u64
+    requires { off ≤ 17 }
     ensures is { result ≡ bit_of off page.now slot }
     ensures low { result < 2 }
 {
-    (page[off + slot / 64] >> (slot % 64)) % 2
+    let number = slot.number();
+    (page[off + number / 64] >> (number % 64)) % 2
 }
 
-fn turn(page: &mut [u64; 40], off: usize, slot: usize)
-    requires within { slot < 1024 }
-    requires inside { off ≤ 17 }
+fn turn(page: &mut [u64; 40], off: usize, slot: Slot)
+    requires { off ≤ 17 }
     ensures { page.new ≡ turn_at off slot page.old }
 {
-    page[off + slot / 64] ^= 1u64 << (slot % 64);
+    let number = slot.number();
+    page[off + number / 64] ^= 1u64 << (number % 64);
 }
 
-pub fn is_used(page: &[u64; 40], slot: usize) -> bool
-    requires { slot < 1024 }
+pub fn is_used(page: &[u64; 40], slot: Slot) -> bool
     ensures { result ≡ (used_of page.now slot == 1) }
 {
     bit(page, USED, slot) == 1
 }
 
 // Which copy of a slot's page counts.
-pub fn pick(page: &[u64; 40], slot: usize) -> usize
-    requires { slot < 1024 }
-    ensures is { result ≡ pick_of page.now slot }
-    ensures low { result < 2 }
+pub fn pick(page: &[u64; 40], slot: Slot) -> PageCopy
+    ensures { result ≡ pick_of page.now slot }
 {
-    bit(page, PICK, slot) as usize
+    PageCopy::new(bit(page, PICK, slot) as usize)
 }
 
 // The other copy of a slot's page shall count.
-pub fn turn_pick(page: &mut [u64; 40], slot: usize)
-    requires { slot < 1024 }
+pub fn turn_pick(page: &mut [u64; 40], slot: Slot)
     ensures { page.new ≡ turn_at 17 slot page.old }
 {
     turn(page, PICK, slot);
 }
 
 // A slot comes into use, or goes out of it.
-pub fn turn_used(page: &mut [u64; 40], slot: usize)
-    requires { slot < 1024 }
+pub fn turn_used(page: &mut [u64; 40], slot: Slot)
     ensures { page.new ≡ turn_at 1 slot page.old }
 {
     turn(page, USED, slot);

@@ -6,17 +6,12 @@ use Prim.Native.Nat.{ℕ, zero, suc, ◌+◌, ◌-◌, ◌/◌, ◌%◌, ◌<◌
 use native.Mathlib.Numerals.{add-one}
 use native.Mathlib.Omega.{arith}
 use lib.ListN.{length, get_or, set, take, drop}
+use Rattle.std.proofs.lemmas.List.{drop_all}
 use lib.Seq.{drop-cons, take-suc-set, take_all, append_snoc}
 use Rattle.device.specs.Lines.{Work, yields}
 use Rattle.device.specs.Does.{Op, Loaded, Stored, bind, Did, d_end, d_load, d_store, Leads}
 use Rattle.device.proofs.Did.{did_bind}
 use Rattle.words.specs.Works.{load_via, store_via}
-
-drop_past : (i : ℕ) (ws : List ℕ) → length ws ≤ i → drop i ws ≡ []
-drop_past zero [] h = refl
-drop_past (suc i) [] h = refl
-drop_past zero (w ∷ ws) h = absurd (omega arith)
-drop_past (suc i) (w ∷ ws) h = drop_past i ws (omega arith)
 
 module _ {S : Type 0} (step : S → Op → S → Type 0) where
   pub store_again : (at : ℕ → ℕ) (i : ℕ) (ws : List ℕ) (q : Work (Unit {0})) {s t s₀ : S} → i < length ws
@@ -31,7 +26,7 @@ module _ {S : Type 0} (step : S → Op → S → Type 0) where
   pub store_all : (at : ℕ → ℕ) (i : ℕ) (ws : List ℕ) (q : Work (Unit {0})) {s s₀ : S} → length ws ≤ i
       → Leads step (store_via at i (drop i ws)) s (λ a. a) q s₀ → Did step q s₀ tt s
   unfolding store_via
-  store_all at i ws q {s} h leads = leads tt s (subst (λ xs. Did step (store_via at i xs) s tt s) (sym (drop_past i ws h)) d_end)
+  store_all at i ws q {s} h leads = leads tt s (subst (λ xs. Did step (store_via at i xs) s tt s) (sym (drop_all i ws h)) d_end)
 
   pub load_again : (at : ℕ → ℕ) (i n : ℕ) (out : List ℕ) (v : ℕ) (q : Work (List ℕ)) {s t s₀ : S} → i < n → length out ≡ n
       → step s (Loaded (at (i / 8)) (i % 8) v) t

@@ -1,23 +1,15 @@
-use Rattle.std.proofs.Common.{◌≡◌, ◌<◌, true, false, eqb, length, get_or, sym, ◌∙◌, arith, eq-eqb, ne_eqb}
-use Rattle.store.proofs.Finds.{same_next, same_end, same_long}
+use Rattle.std.proofs.Common.{ℕ, eqb, sym, ◌∙◌, rules, tests, ne_eqb}
+use Rattle.std.proofs.lemmas.Iterator.{YieldsList-from_slice, YieldsList-from_zip}
+use Rattle.std.proofs.lemmas.Iterator.Search.{all_from_yields_List}
+use Rattle.store.proofs.Finds.{same_long, same_all}
 use Rattle.store.proofs.dir.same_key.Goals as goal
 
 pub returns-then-key-words : goal.returns-then-key-words
-returns-then-key-words c = sym (same_long c.args.key.now c.args.words.now c.if-key-words.true)
+returns-then-key-words c =
+    all_from_yields_List (λ (p : ℕ × ℕ). eqb p.0 p.1) c.all.new.self _ _ c.all.ensures.ran
+    (YieldsList-from_zip (YieldsList-from_slice c.args.key.now cc) (YieldsList-from_slice c.args.words.now cc))
+    (λ x b q k. search (rules, tests))
+    ∙ same_all c.args.key.now c.args.words.now c.if-key-words.true
 
-pub returns-then-from-words : goal.returns-then-from-words
-returns-then-from-words c =
-    let i = c.loop-i.i in
-    let inside : i < length c.args.words.now = omega (arith, c.loop-i.invariant.0) in
-    let ne : eqb (get_or c.args.key.now i 0) (get_or c.args.words.now i 0) ≡ false = ne_eqb _ _ (λ e. c.if-from-words.true (c.from.ensures ∙ e)) in
-    sym (same_next c.args.key.now c.args.words.now i false (omega arith) inside ne) ∙ c.loop-i.invariant.1
-
-pub loop-i-preserved : goal.loop-i-preserved
-loop-i-preserved c =
-    let i = c.loop-i.i in
-    let inside : i < length c.args.words.now = omega (arith, c.loop-i.invariant.0) in
-    let eq : eqb (get_or c.args.key.now i 0) (get_or c.args.words.now i 0) ≡ true = eq-eqb _ _ (sym c.from.ensures ∙ c.if-from-words.false) in
-    (c.loop-i.invariant.0, sym (same_next c.args.key.now c.args.words.now i true (omega arith) inside eq) ∙ c.loop-i.invariant.1)
-
-pub returns : goal.returns
-returns c = sym (same_end c.args.key.now c.args.words.now c.loop-i.i (omega arith) (omega (arith, c.loop-i.invariant.0))) ∙ c.loop-i.invariant.1
+pub returns-else-key-words : goal.returns-else-key-words
+returns-else-key-words c = ne_eqb _ _ c.if-key-words.false ∙ sym (same_long c.args.key.now c.args.words.now c.if-key-words.false)

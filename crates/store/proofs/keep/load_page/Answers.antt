@@ -8,8 +8,8 @@ use Rattle.store.proofs.keep.load_page.Goals as goal
 pub returns : goal.returns
 unfolding load_page
 returns g c =
-    let total = c.blocks_in-total.ensures ∙ ap blocks_in c.lines.ensures in
+    let total = c.blocks_in.ensures ∙ ap blocks_in c.lines.ensures in
     record {
-      did = load_same g.D.Device.step total (c.page_blocks-blocks.ensures.is ∙ ap (page_blocks c.args.dir.now c.args.slot) c.pick-copy.ensures.is) c.requires.whole c.load_blocks.ensures.did;
-      stays = c.load_blocks.ensures.stays;
+      did = load_same g.D.Device.step total (c.page_blocks.ensures.is ∙ ap (page_blocks c.args.dir.now c.args.slot) c.pick.ensures) c.told-out c.load.ensures.did;
+      stays = c.load.ensures.stays;
     }

@@ -7,8 +7,8 @@ use Rattle.store.proofs.keep.load_plan.Goals as goal
 pub returns : goal.returns
 unfolding load_plan
 returns g c =
-    let total = c.blocks_in-total.ensures ∙ ap blocks_in c.lines.ensures in
+    let total = c.blocks_in.ensures ∙ ap blocks_in c.lines.ensures in
     record {
-      did = load_same g.D.Device.step total c.plan_blocks-blocks.ensures.is c.requires.whole c.load_blocks.ensures.did;
-      stays = c.load_blocks.ensures.stays;
+      did = load_same g.D.Device.step total c.plan_blocks.ensures.is c.requires.whole c.load.ensures.did;
+      stays = c.load.ensures.stays;
     }

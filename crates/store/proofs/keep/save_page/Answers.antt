@@ -7,9 +7,9 @@ use Rattle.store.proofs.keep.save_page.Goals as goal
 pub returns : goal.returns
 unfolding save_page
 returns g c =
-    let total = c.blocks_in-total.ensures ∙ ap blocks_in c.lines.ensures in
-    let n : (length c.args.words.now + 7) / 8 ≡ 16 = omega (arith, c.requires.whole) in
+    let total = c.blocks_in.ensures ∙ ap blocks_in c.lines.ensures in
+    let n : (length c.args.words.now + 7) / 8 ≡ 16 = omega (arith, c.told-words) in
     record {
-      did = save_same g.D.Device.step total c.page_blocks-blocks.ensures.is n c.args.words.now c.save_blocks.ensures.did;
-      stays = c.save_blocks.ensures.stays;
+      did = save_same g.D.Device.step total c.page_blocks.ensures.is n c.args.words.now c.save.ensures.did;
+      stays = c.save.ensures.stays;
     }

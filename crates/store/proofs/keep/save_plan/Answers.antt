@@ -7,8 +7,8 @@ use Rattle.store.proofs.keep.save_plan.Goals as goal
 pub returns : goal.returns
 unfolding save_plan
 returns g c =
-    let total = c.blocks_in-total.ensures ∙ ap blocks_in c.lines.ensures in
+    let total = c.blocks_in.ensures ∙ ap blocks_in c.lines.ensures in
     record {
-      did = save_same g.D.Device.step total c.plan_blocks-blocks.ensures.is refl c.args.words.now c.save_blocks.ensures.did;
-      stays = c.save_blocks.ensures.stays;
+      did = save_same g.D.Device.step total c.plan_blocks.ensures.is refl c.args.words.now c.save.ensures.did;
+      stays = c.save.ensures.stays;
     }

@@ -1,5 +1,5 @@
 use Rattle.std.proofs.Common.{sym, arith}
-use Rattle.store.proofs.Chooses.{set_past}
+use Rattle.std.proofs.lemmas.List.{set_past}
 use Rattle.store.proofs.room.mark_block.Goals as goal
 
 pub returns-else-block-marks : goal.returns-else-block-marks

@@ -1,7 +1,10 @@
-use Rattle.std.proofs.Common.{refl, arith}
+use Rattle.std.proofs.Common.{◌+◌, ◌/◌, ◌%◌, ◌^◌, get_or, ap, arith}
 use Rattle.store.specs.Layout.{bit_of}
 use Rattle.store.proofs.root.bit.Goals as goal
 
 pub returns : goal.returns
 unfolding bit_of
-returns c = record { is = refl; low = omega arith }
+returns c = record {
+  is = ap (λ i. get_or c.args.page.now (c.args.off + i / 64) 0 / 2 ^ (i % 64) % 2) c.number-number.ensures.is;
+  low = omega arith;
+}
