@@ -1,34 +1,26 @@
 -- A new flow comes into a slot. Assumes nothing.
-use Rattle.std.proofs.Common.{◌≡◌, ℕ, zero, suc, ◌+◌, ◌-◌, ◌*◌, ◌/◌, ◌%◌, ◌<◌, ◌≤◌, min, Bool, true, false, cond, not, ◌&&◌, ◌||◌, eqb, ltb, leb, ◌⊎◌, List, [], ◌∷◌, map, length, get_or, Some, None, Ok, Err, Option, Result, sym, refl, ap, ◌∙◌, subst, inl, inr, arith, eq-eqb, ne_eqb, eqb-true}
+use Rattle.std.proofs.Common.{◌≡◌, ℕ, ◌+◌, ◌-◌, ◌*◌, ◌/◌, ◌<◌, ◌≤◌, min, Bool, true, false, cond, eqb, ◌⊎◌, List, [], ◌∷◌, length, get_or, Ok, Err, Result, sym, refl, ap, ◌∙◌, subst, inl, inr, arith, eqb-true}
 use borrow.Author.Tests.{eqb-false}
 use Rattle.plans.specs.declared.eval.Damaged.{Damaged}
-use Rattle.runs.specs.declared.step.Phase.{Phase}
-use Rattle.runs.specs.declared.step.Phase.TheVariants as phases
-use Rattle.runs.specs.Carried.{phase_in, listening}
 use Rattle.flows.specs.One.{One}
-use Rattle.runs.specs.Machine.{FlatFlow}
 use Rattle.pages.specs.declared.flow.Flow.{Flow}
 use Rattle.pages.specs.Page.{encode_of}
-use Rattle.pages.specs.Sound.{Sound, Fits}
+use Rattle.pages.specs.Sound.{Fits}
 use Rattle.pages.specs.Holds.{Holds, HeldBy, TasksOk}
-use Rattle.device.specs.Lines.{Lines, Left, Work, yields}
+use Rattle.device.specs.Lines.{Lines, Left}
 use Rattle.device.specs.Does.{bind}
 use Rattle.device.specs.Safe.{Safe, s_end}
 use Rattle.device.proofs.Safe.{safe_bind, safe_more}
-use Rattle.store.specs.Layout.{slots, dir_words, root_words, next_of, bit_of, used_of, pick_of, turn_at, id_at, size_at, key_at, Mind, flipped_to, at_time}
-use Rattle.store.specs.Works.{load_plan, flip_to}
-use Rattle.store.specs.Shows.{Used, Shows, Counts}
-use Rattle.store.specs.Finds.{first_slot, by_id, by_key}
+use Rattle.store.specs.Layout.{slots, dir_words, next_of, used_of, pick_of, turn_at, id_at, size_at, key_at, Mind, flipped_to}
+use Rattle.store.specs.Works.{flip_to}
+use Rattle.store.specs.Shows.{Used, Counts}
 use Rattle.store.proofs.Turns.{bit_low, turn_same, turn_other, turn_apart, turn_length, turn_small, turn_first}
-use Rattle.store.proofs.Slots.{body_fewer}
 use Rattle.store.proofs.Drafts.{Held, Draft, draft_start, draft_flip}
-use Rattle.engine.proofs.Stands.{who, Slot, Agrees, Stands, Fallen, held_fallen, held_stands, stands_fallen, Ends, Ever, Carries, carries_said, open_then, plan_then, change_carries}
-use Rattle.engine.proofs.Search.{slot_list, search_same, search_found, key_same, free_same, slot_flow, weight_same, used_or}
+use Rattle.engine.proofs.Stands.{who, Slot, Agrees, Stands, held_fallen, held_stands, Ever, Carries}
 use Rattle.engine.proofs.Rules.{Rules}
-use Rattle.plans.specs.Plan.{Name, Block, Rest, Busy, Flow as Meant, top, size_of, block_ok, name_ok, every}
+use Rattle.plans.specs.Plan.{Name, Block, Rest, Busy, size_of, block_ok}
 use Rattle.plans.specs.Flat.{laid}
-use Rattle.runs.specs.Machine.{FlatFlow}
-use Rattle.flows.specs.House.{Reply, Flow', given}
+use Rattle.flows.specs.House.{Flow', given}
 use Rattle.flows.specs.One.{moved_one}
 use Rattle.flows.specs.Summed.{new_flow}
 use Rattle.flows.specs.Seats.{Seats, Seated, nobody, answer, new_one, born_at}
@@ -37,7 +29,6 @@ use Rattle.pages.specs.Holds.{new_of, alone}
 use Rattle.pages.proofs.Codes.{encodes_page, encodes_small}
 use Rattle.pages.proofs.Held.{begun_held}
 use Rattle.pages.proofs.Laid.{laid_fits}
-use Rattle.device.specs.Flips.{Amid}
 use Rattle.device.proofs.Commit.{amid_rests}
 use Rattle.words.specs.Runs.{Small}
 use Rattle.blocks.specs.Works.{blocks_in}
@@ -50,9 +41,9 @@ use Rattle.store.proofs.Fits.{small_set}
 use Rattle.store.proofs.Where.{shows_agree}
 use Rattle.store.proofs.Slots.{SameDir}
 use Rattle.store.proofs.Starts.{New, draft_new}
-use Rattle.store.proofs.Drafts.{Told, told, Decodes}
+use Rattle.store.proofs.Drafts.{told, Decodes}
 use Rattle.store.proofs.Entries.{entry_length, entry_at, entry_there, entry_small, key_same as same_key, new_field, new_block, new_length, new_key_lem, bump_bit, bump_next, bump_length}
-use Rattle.engine.specs.Works.{room, Answer, said, lost, by_flow, born_work, start_blocks}
+use Rattle.engine.specs.Works.{room, said, lost, by_flow, born_work, start_blocks}
 use Rattle.engine.proofs.Stands.{small_same}
 
 -- what a start that is not refused has

@@ -1,33 +1,30 @@
 -- Show, forget and cancel. Assumes nothing.
-use Rattle.std.proofs.Common.{◌≡◌, ℕ, zero, suc, ◌+◌, ◌-◌, ◌*◌, ◌/◌, ◌%◌, ◌<◌, ◌≤◌, min, Bool, true, false, cond, not, ◌&&◌, ◌||◌, eqb, ltb, leb, ◌⊎◌, List, [], ◌∷◌, map, length, get_or, Some, None, Ok, Err, Option, Result, sym, refl, ap, ◌∙◌, subst, inl, inr, arith, eq-eqb, ne_eqb, eqb-true}
+use Rattle.std.proofs.Common.{◌≡◌, ℕ, ◌+◌, ◌/◌, ◌<◌, ◌≤◌, Bool, true, false, cond, ◌&&◌, eqb, ◌⊎◌, List, [], ◌∷◌, map, length, Some, None, Option, sym, refl, ap, ◌∙◌, subst, inl, inr, arith, eqb-true}
 use borrow.Author.Tests.{eqb-false}
-use Rattle.plans.specs.declared.eval.Damaged.{Damaged}
 use Rattle.runs.specs.declared.step.Phase.{Phase}
 use Rattle.runs.specs.declared.step.Phase.TheVariants as phases
 use Rattle.runs.specs.Carried.{phase_in, listening}
 use Rattle.flows.specs.One.{One}
 use Rattle.pages.specs.declared.flow.Flow.{Flow}
-use Rattle.pages.specs.Page.{encode_of}
-use Rattle.pages.specs.Sound.{Sound, Fits}
-use Rattle.pages.specs.Holds.{Holds, HeldBy, TasksOk}
-use Rattle.device.specs.Lines.{Lines, Left, Work, yields}
+use Rattle.pages.specs.Holds.{Holds}
+use Rattle.device.specs.Lines.{Lines, Left, Work}
 use Rattle.device.specs.Does.{bind}
-use Rattle.device.specs.Safe.{Safe, s_end}
+use Rattle.device.specs.Safe.{s_end}
 use Rattle.device.proofs.Safe.{safe_bind, safe_more}
-use Rattle.store.specs.Layout.{slots, dir_words, root_words, next_of, bit_of, used_of, pick_of, turn_at, id_at, size_at, key_at, Mind, flipped_to, at_time}
+use Rattle.store.specs.Layout.{slots, dir_words, used_of, pick_of, turn_at, id_at, Mind, flipped_to}
 use Rattle.store.specs.Works.{load_plan, flip_to}
-use Rattle.store.specs.Shows.{Used, Shows, Counts}
+use Rattle.store.specs.Shows.{Used}
 use Rattle.store.specs.Finds.{first_slot, by_id, by_key}
-use Rattle.store.proofs.Turns.{bit_low, turn_same, turn_other, turn_apart, turn_length, turn_small, turn_first}
+use Rattle.store.proofs.Turns.{turn_same, turn_other, turn_apart, turn_length, turn_small, turn_first}
 use Rattle.store.proofs.Slots.{body_fewer}
 use Rattle.store.proofs.Drafts.{Held, Draft, draft_start, draft_flip}
-use Rattle.engine.proofs.Stands.{who, Slot, Agrees, Stands, Fallen, held_fallen, held_stands, stands_fallen, Ends, Ever, Carries, carries_said, open_then, plan_then, change_carries}
-use Rattle.engine.proofs.Search.{slot_list, search_same, search_found, key_same, id_same, tasks_ok}
+use Rattle.engine.proofs.Stands.{who, Slot, Agrees, Stands, held_fallen, held_stands, stands_fallen, Ever, Carries, carries_said, open_then, plan_then, change_carries}
+use Rattle.engine.proofs.Search.{slot_list, search_same, search_found, key_same, id_same}
 use Rattle.engine.proofs.Rules.{Rules}
 use Rattle.plans.specs.Plan.{Name, Flow as Meant, Failed, ends}
-use Rattle.flows.specs.House.{Reply, No, Yes, State, is_over}
+use Rattle.flows.specs.House.{No, Yes, State, is_over}
 use Rattle.flows.specs.Summed.{cancels_one}
-use Rattle.flows.specs.Seats.{Seats, Seated, nobody, put, answer, refuse, at_seat, shows_flow, forgets_flow, cancels_flow, flow_at, key_seat, id_seat, seat_with, holds_key, holds_id}
+use Rattle.flows.specs.Seats.{Seats, Seated, nobody, put, answer, refuse, at_seat, shows_flow, forgets_flow, cancels_flow, flow_at, key_seat, id_seat, holds_key, holds_id}
 use Rattle.pages.specs.Events.{over_in, cancelled_of}
 use Rattle.pages.proofs.Asked.{over_held, cancelled_held}
 use Rattle.engine.specs.Works.{room, Answer, said, lost, by_slot, by_flow, at_flow, at_slot, key_slot, id_slot, changes, show_flow, forget_flow, cancel_flow}

@@ -1,57 +1,44 @@
 -- Longer and report. Assumes nothing.
-use Rattle.std.proofs.Common.{◌≡◌, ℕ, zero, suc, ◌+◌, ◌-◌, ◌*◌, ◌/◌, ◌%◌, ◌<◌, ◌≤◌, min, Bool, true, false, cond, not, ◌&&◌, ◌||◌, eqb, ltb, leb, ◌⊎◌, List, [], ◌∷◌, map, length, get_or, Some, None, Ok, Err, Option, Result, sym, refl, ap, ◌∙◌, subst, inl, inr, arith, eq-eqb, ne_eqb, eqb-true}
-use borrow.Author.Tests.{eqb-false}
+use Rattle.std.proofs.Common.{◌≡◌, ℕ, ◌+◌, ◌%◌, ◌<◌, ◌≤◌, Bool, true, false, cond, List, [], ◌∷◌, length, Ok, Err, Result, sym, refl, ap, ◌∙◌, subst, inl, arith, eq-eqb}
 use Rattle.plans.specs.declared.eval.Damaged.{Damaged}
-use Rattle.runs.specs.declared.step.Phase.{Phase}
-use Rattle.runs.specs.declared.step.Phase.TheVariants as phases
-use Rattle.runs.specs.Carried.{phase_in, listening}
 use Rattle.flows.specs.One.{One}
 use Rattle.runs.specs.Machine.{FlatFlow}
 use Rattle.pages.specs.declared.flow.Flow.{Flow}
-use Rattle.pages.specs.Page.{encode_of}
-use Rattle.pages.specs.Sound.{Sound, Fits}
+use Rattle.pages.specs.Sound.{Fits}
 use Rattle.pages.specs.Holds.{Holds, HeldBy, TasksOk}
-use Rattle.device.specs.Lines.{Lines, Left, Work, yields}
+use Rattle.device.specs.Lines.{Lines, Work}
 use Rattle.device.specs.Does.{bind}
-use Rattle.device.specs.Safe.{Safe, s_end}
-use Rattle.device.proofs.Safe.{safe_bind, safe_more}
-use Rattle.store.specs.Layout.{slots, dir_words, root_words, next_of, bit_of, used_of, pick_of, turn_at, id_at, size_at, key_at, Mind, flipped_to, at_time}
-use Rattle.store.specs.Works.{load_plan, flip_to}
-use Rattle.store.specs.Shows.{Used, Shows, Counts}
-use Rattle.store.specs.Finds.{first_slot, by_id, by_key}
-use Rattle.store.proofs.Turns.{bit_low, turn_same, turn_other, turn_apart, turn_length, turn_small, turn_first}
-use Rattle.store.proofs.Slots.{body_fewer}
-use Rattle.store.proofs.Drafts.{Held, Draft, draft_start, draft_flip}
-use Rattle.engine.proofs.Stands.{who, Slot, Agrees, Stands, Fallen, held_fallen, held_stands, stands_fallen, Ends, Ever, Carries, carries_said, open_then, plan_then, change_carries}
-use Rattle.engine.proofs.Search.{slot_list, search_same, search_found, key_same, id_same, tasks_ok}
+use Rattle.store.specs.Layout.{slots, dir_words, id_at, Mind}
+use Rattle.store.specs.Works.{load_plan}
+use Rattle.store.specs.Shows.{Used}
+use Rattle.engine.proofs.Stands.{who, Stands, stands_fallen, Ever, Carries, carries_said, plan_then, change_carries}
 use Rattle.engine.proofs.Rules.{Rules}
-use Rattle.plans.specs.Plan.{Name, Flow as Meant, top}
-use Rattle.flows.specs.House.{Reply, No, Yes, Task as Job, find, is_task, the_same}
+use Rattle.plans.specs.Plan.{top}
+use Rattle.flows.specs.House.{No, Yes, Task as Job, find, is_task, the_same}
 use Rattle.flows.specs.One.{with_task, works_one, wrong_one}
 use Rattle.flows.specs.Summed.{stands_one, reports_one, longer_one}
-use Rattle.flows.specs.Seats.{Seats, Seated, put, answer, refuse, at_seat, reports_task, longer_task, task_at, id_seat}
-use Rattle.pages.specs.declared.flow.Tried.{Tried}
-use Rattle.pages.specs.declared.flow.Tried.TheVariants as tries
+use Rattle.flows.specs.Seats.{Seats, Seated, put, answer, refuse, reports_task, longer_task, task_at}
+use Rattle.pages.specs.Events.{Tried, tried_no_task, tried_not_out, tried_out}
 use Rattle.pages.specs.Events.{handed_out, worked_on, wrong_on}
 use Rattle.pages.specs.Holds.{tried_in}
-use Rattle.pages.specs.Reports.{TryOut, Tries}
+use Rattle.pages.specs.Reports.{TryOut}
 use Rattle.pages.proofs.Asked.{handed_held, tried_held}
 use Rattle.pages.proofs.Means.{worked_held, wrong_held}
 use Rattle.pages.proofs.Reports.{tries_stand}
-use Rattle.engine.specs.Works.{room, Answer, said, lost, by_flow, by_tried, at_flow, at_slot, id_slot, changes, tried_by, longer_flow, report_plan, report_flow}
+use Rattle.engine.specs.Works.{room, Answer, said, lost, by_flow, by_tried, at_slot, id_slot, changes, tried_by, longer_flow, report_plan, report_flow}
 use Rattle.engine.proofs.ByKey.{at_id}
 
 -- what a try is, by the tasks that it is looked for in
 data Found (a : ℕ) (l : List Job) : Tried → Type 0 where
-  no_task_lem : l ≡ [] → Found a l tries.NoTask
-  not_out_lem : (t : Job) (ts : List Job) → l ≡ t ∷ ts → the_same a t ≡ false → Found a l tries.NotOut
-  is_out_lem : (t : Job) (ts : List Job) → l ≡ t ∷ ts → the_same a t ≡ true → Found a l tries.Out
+  no_task_lem : l ≡ [] → Found a l tried_no_task
+  not_out_lem : (t : Job) (ts : List Job) → l ≡ t ∷ ts → the_same a t ≡ false → Found a l tried_not_out
+  is_out_lem : (t : Job) (ts : List Job) → l ≡ t ∷ ts → the_same a t ≡ true → Found a l tried_out
 
 found : (a : ℕ) (l : List Job) → Found a l (tried_in a l)
 found a [] = no_task_lem refl
 found a (t ∷ ts) = go (the_same a t) refl
   where
-    go : (b : Bool) → the_same a t ≡ b → Found a (t ∷ ts) (cond b tries.Out tries.NotOut)
+    go : (b : Bool) → the_same a t ≡ b → Found a (t ∷ ts) (cond b tried_out tried_not_out)
     go true e = is_out_lem t ts refl e
     go false e = not_out_lem t ts refl e
 

@@ -1,5 +1,5 @@
 -- Every event keeps a flow's numbers within 64 bits. Assumes nothing.
-use Rattle.std.proofs.Common.{◌≡◌, ℕ, ◌<◌, ◌≤◌, List, length, Ok, Err}
+use Rattle.std.proofs.Common.{◌≡◌, ℕ, ◌<◌, ◌≤◌, List, length, Ok}
 use Rattle.pages.specs.declared.flow.Flow.{Flow}
 use Rattle.pages.specs.Sound.{Sound, Fits}
 use Rattle.pages.specs.Events.{begun, worked_on, wrong_on, ticked_on, handed_out, cancelled_of}

@@ -1,21 +1,18 @@
 -- Looking through the slots finds what looking through the house finds. Assumes nothing.
-use Rattle.std.proofs.Common.{◌≡◌, ℕ, zero, suc, ◌+◌, ◌-◌, ◌*◌, ◌<◌, ◌≤◌, min, Bool, true, false, cond, not, ◌&&◌, eqb, ltb, leb, ◌⊎◌, List, [], ◌∷◌, length, Some, None, Option, sym, refl, ap, ◌∙◌, subst, inl, inr, add-one, arith, eq-eqb, ne_eqb, eqb-true}
-use borrow.Author.Tests.{eqb-false, both_ways}
+use Rattle.std.proofs.Common.{◌≡◌, ℕ, zero, suc, ◌+◌, ◌*◌, ◌<◌, ◌≤◌, Bool, true, false, cond, not, ◌&&◌, eqb, ◌⊎◌, List, [], ◌∷◌, Some, None, Option, sym, refl, ap, ◌∙◌, subst, inl, inr, add-one, arith, eq-eqb, ne_eqb, eqb-true}
+use borrow.Author.Tests.{eqb-false}
 use Rattle.plans.specs.Plan.{Name, Flow, same_name, none}
-use Rattle.runs.specs.Machine.{Is}
 use Rattle.flows.specs.House.{House, weight_of, is_key, is_flow}
 use Rattle.flows.specs.One.{One}
-use Rattle.flows.specs.Fine.{Fine, absent, calm, tasked, AsksOf}
-use Rattle.flows.specs.Seats.{Seats, Sits, nobody, seat_with, flow_is, holds_key, holds_id, is_free as freeOne, total, weight_one, weight_seats}
+use Rattle.flows.specs.Fine.{Fine, absent, calm, tasked}
+use Rattle.flows.specs.Seats.{Seats, Sits, seat_with, flow_is, holds_key, holds_id, is_free as freeOne, total, weight_one, weight_seats}
 use Rattle.flows.proofs.Seats.{seats_stand}
-use Rattle.pages.specs.Holds.{Holds, JobOk, TasksOk}
-use Rattle.device.specs.Lines.{Lines}
+use Rattle.pages.specs.Holds.{TasksOk}
 use Rattle.store.specs.Layout.{slots, used_of, id_at, size_at, key_at, Mind}
 use Rattle.store.specs.Shows.{Used}
 use Rattle.store.specs.Finds.{first_slot, by_id, by_key, is_free, weighs, weight_over}
 use Rattle.store.proofs.Turns.{bit_low}
-use Rattle.engine.specs.Works.{by_slot}
-use Rattle.engine.proofs.Stands.{who, Slot, Agrees, Stands}
+use Rattle.engine.proofs.Stands.{Agrees}
 
 unfoldable pub slot_list : Option ℕ → List ℕ
 slot_list None = []

@@ -1,33 +1,30 @@
 -- What the engine keeps true, and the steps that calls are made of. Assumes nothing.
-use Rattle.std.proofs.Common.{◌≡◌, ℕ, zero, suc, ◌+◌, ◌-◌, ◌*◌, ◌/◌, ◌%◌, ◌<◌, ◌≤◌, min, Bool, true, false, cond, eqb, ltb, ◌⊎◌, List, [], ◌∷◌, length, get_or, Ok, Err, Result, sym, refl, ap, ◌∙◌, subst, inl, inr, arith, eq-eqb, ne_eqb, eqb-true}
-use borrow.Author.Tests.{eqb-false}
+use Rattle.std.proofs.Common.{◌≡◌, ℕ, ◌+◌, ◌*◌, ◌<◌, ◌≤◌, Bool, true, false, cond, eqb, ◌⊎◌, List, [], ◌∷◌, length, Ok, Result, sym, refl, ap, ◌∙◌, subst, inl, inr, arith, eqb-true}
 use Rattle.plans.specs.declared.eval.Damaged.{Damaged}
 use Rattle.plans.specs.Plan.{Busy}
 use Rattle.runs.specs.Machine.{FlatFlow}
 use Rattle.flows.specs.House.{Reply}
 use Rattle.flows.specs.One.{One}
-use Rattle.flows.specs.Seats.{Seats, Seated, nobody, put, put_at, answer, down_seats}
+use Rattle.flows.specs.Seats.{Seats, Seated, nobody, put, answer, down_seats}
 use Rattle.pages.specs.declared.flow.Flow.{Flow}
 use Rattle.pages.specs.Page.{decode_of, encode_of}
-use Rattle.pages.specs.Sound.{Sound, Fits, Small as Words}
+use Rattle.pages.specs.Sound.{Fits, Small as Words}
 use Rattle.pages.specs.Holds.{Holds}
 use Rattle.pages.proofs.Codes.{decodes_encoded, encodes_page, encodes_small}
 use Rattle.device.specs.Lines.{Lines, Left, Work, yields}
 use Rattle.device.specs.Does.{bind}
 use Rattle.device.specs.Safe.{Safe, s_end}
 use Rattle.device.specs.Images.{Image, All, None, At}
-use Rattle.device.specs.Flips.{Amid}
 use Rattle.device.proofs.Safe.{safe_bind, safe_more}
-use Rattle.device.proofs.Image.{at_left}
 use Rattle.device.proofs.Commit.{amid_rests}
 use Rattle.words.specs.Runs.{Small}
-use Rattle.store.specs.Layout.{slots, dir_words, root_words, next_of, used_of, pick_of, turn_at, id_at, size_at, key_at, Mind, flipped_to, at_time}
-use Rattle.store.specs.Works.{load_page, load_plan, save_page, flip_to}
+use Rattle.store.specs.Layout.{slots, dir_words, next_of, used_of, turn_at, id_at, size_at, key_at, Mind, at_time}
+use Rattle.store.specs.Works.{load_page, load_plan, flip_to}
 use Rattle.store.specs.Shows.{Used, Shows, Counts}
-use Rattle.store.proofs.Turns.{bit_low, turn_same, turn_other, turn_apart, turn_length, turn_first}
+use Rattle.store.proofs.Turns.{turn_first}
 use Rattle.store.proofs.Where.{shows_agree}
-use Rattle.store.proofs.Drafts.{Told, told, Decodes, Held, held_left, Draft, draft_start, draft_load_page, draft_load_plan, draft_page, draft_flip, used_turned}
-use Rattle.engine.specs.Works.{room, Answer, said, lost, by_flow, open_work, shut_work, shut_mind, changes, at_flow}
+use Rattle.store.proofs.Drafts.{told, Decodes, Held, held_left, Draft, draft_start, draft_load_page, draft_load_plan, draft_page, draft_flip, used_turned}
+use Rattle.engine.specs.Works.{room, Answer, said, open_work, shut_work, shut_mind, changes}
 
 -- which flow a slot has, by its entry
 abbrev pub who : (dir : List ℕ) → ℕ → FlatFlow

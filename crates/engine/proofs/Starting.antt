@@ -1,41 +1,24 @@
 -- Start. Assumes nothing.
-use Rattle.std.proofs.Common.{◌≡◌, ℕ, zero, suc, ◌+◌, ◌-◌, ◌*◌, ◌/◌, ◌%◌, ◌<◌, ◌≤◌, min, Bool, true, false, cond, not, ◌&&◌, ◌||◌, eqb, ltb, leb, ◌⊎◌, List, [], ◌∷◌, map, length, get_or, Some, None, Ok, Err, Option, Result, sym, refl, ap, ◌∙◌, subst, inl, inr, arith, ltb-false, ltb-true, eq-eqb, ne_eqb, eqb-true, leb-false, leb-true}
-use borrow.Author.Tests.{eqb-false}
-use Rattle.plans.specs.declared.eval.Damaged.{Damaged}
-use Rattle.runs.specs.declared.step.Phase.{Phase}
-use Rattle.runs.specs.declared.step.Phase.TheVariants as phases
-use Rattle.runs.specs.Carried.{phase_in, listening}
-use Rattle.flows.specs.One.{One}
-use Rattle.runs.specs.Machine.{FlatFlow}
-use Rattle.pages.specs.declared.flow.Flow.{Flow}
-use Rattle.pages.specs.Page.{encode_of}
-use Rattle.pages.specs.Sound.{Sound, Fits}
-use Rattle.pages.specs.Holds.{Holds, HeldBy, TasksOk}
-use Rattle.device.specs.Lines.{Lines, Left, Work, yields}
-use Rattle.device.specs.Does.{bind}
-use Rattle.device.specs.Safe.{Safe, s_end}
-use Rattle.device.proofs.Safe.{safe_bind, safe_more}
-use Rattle.store.specs.Layout.{slots, dir_words, root_words, next_of, bit_of, used_of, pick_of, turn_at, id_at, size_at, key_at, Mind, flipped_to, at_time}
-use Rattle.store.specs.Works.{load_plan, flip_to}
-use Rattle.store.specs.Shows.{Used, Shows, Counts}
-use Rattle.store.specs.Finds.{first_slot, by_id, by_key}
-use Rattle.store.proofs.Turns.{bit_low, turn_same, turn_other, turn_apart, turn_length, turn_small, turn_first}
-use Rattle.store.proofs.Slots.{body_fewer}
-use Rattle.store.proofs.Drafts.{Held, Draft, draft_start, draft_flip}
-use Rattle.engine.proofs.Stands.{who, Slot, Agrees, Stands, Fallen, held_fallen, held_stands, stands_fallen, Ends, Ever, Carries, carries_said, open_then, plan_then, change_carries}
+use Rattle.std.proofs.Common.{◌≡◌, ℕ, zero, suc, ◌+◌, ◌*◌, ◌<◌, ◌≤◌, Bool, true, false, cond, not, ◌&&◌, ◌||◌, eqb, ltb, leb, List, [], ◌∷◌, length, get_or, Some, None, Option, sym, refl, ap, ◌∙◌, subst, inl, inr, arith, ltb-false, ltb-true, eq-eqb, eqb-true, leb-false, leb-true}
+use Rattle.pages.specs.Holds.{TasksOk}
+use Rattle.device.specs.Lines.{Lines, Work}
+use Rattle.store.specs.Layout.{slots, dir_words, used_of, id_at, Mind}
+use Rattle.store.specs.Shows.{Used}
+use Rattle.store.specs.Finds.{first_slot, by_key}
+use Rattle.engine.proofs.Stands.{Stands, Carries, carries_said}
 use Rattle.engine.proofs.Search.{slot_list, search_same, search_found, key_same, free_same, slot_flow, weight_same, used_or}
 use Rattle.engine.proofs.Rules.{Rules}
-use Rattle.plans.specs.Plan.{Name, Block, Flow as Meant, top, size_of, block_ok, name_ok, every}
+use Rattle.plans.specs.Plan.{Name, Block, Flow as Meant, top, size_of, every}
 use Rattle.plans.specs.Flat.{laid}
-use Rattle.flows.specs.House.{Reply, No, Flow', Full'}
+use Rattle.flows.specs.House.{No, Flow', Full'}
 use Rattle.flows.specs.Summed.{new_flow}
-use Rattle.flows.specs.Seats.{Seats, Seated, answer, refuse, bad_start, key_seat, free_seat, holds_key, is_free as freeOne, weight_seats, tight, new_one, born_at, starts_free, starts_flow, starts_seat}
+use Rattle.flows.specs.Seats.{Seats, Seated, answer, refuse, bad_start, key_seat, free_seat, holds_key, is_free as freeOne, tight, new_one, born_at, starts_free, starts_flow, starts_seat}
 use Rattle.words.specs.Runs.{Small}
 use Rattle.store.specs.Layout.{blocks_for}
 use Rattle.store.specs.Finds.{is_free, weight_over}
-use Rattle.store.specs.Room.{Chosen, marked, chosen, looked_at}
+use Rattle.store.specs.Room.{marked, chosen, looked_at}
 use Rattle.store.proofs.Marks.{room_stands}
-use Rattle.engine.specs.Works.{room, Answer, said, lost, by_slot, by_blocks, key_slot, start_blocks, start_free, start_work}
+use Rattle.engine.specs.Works.{Answer, said, lost, by_slot, by_blocks, key_slot, start_blocks, start_free, start_work}
 use Rattle.engine.proofs.Born.{Fair, born}
 
 pub or_left : (a b : Bool) → (a || b) ≡ false → a ≡ false

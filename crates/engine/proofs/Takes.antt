@@ -1,42 +1,30 @@
 -- Take. Assumes nothing.
-use Rattle.std.proofs.Common.{◌≡◌, ℕ, zero, suc, ◌+◌, ◌-◌, ◌*◌, ◌/◌, ◌%◌, ◌<◌, ◌≤◌, min, Bool, true, false, cond, not, ◌&&◌, ◌||◌, eqb, ltb, leb, ◌⊎◌, List, [], ◌∷◌, map, length, get_or, take, Some, None, Ok, Err, Option, Result, sym, refl, ap, ◌∙◌, subst, inl, inr, add-one, arith, eq-eqb, ne_eqb, eqb-true}
-use borrow.Author.Tests.{eqb-false}
-use Rattle.plans.specs.declared.eval.Damaged.{Damaged}
+use Rattle.std.proofs.Common.{◌≡◌, ℕ, suc, ◌+◌, ◌%◌, ◌<◌, ◌≤◌, Bool, true, false, cond, ◌&&◌, ◌||◌, eqb, ltb, ◌⊎◌, List, [], ◌∷◌, length, take, Some, None, Ok, Option, sym, refl, ap, ◌∙◌, subst, inl, inr, add-one, arith, eq-eqb, ne_eqb}
 use Rattle.runs.specs.declared.step.Phase.{Phase}
 use Rattle.runs.specs.declared.step.Phase.TheVariants as phases
-use Rattle.runs.specs.Carried.{phase_in, listening}
 use Rattle.flows.specs.One.{One}
-use Rattle.runs.specs.Machine.{FlatFlow}
 use Rattle.pages.specs.declared.flow.Flow.{Flow}
-use Rattle.pages.specs.Page.{encode_of}
-use Rattle.pages.specs.Sound.{Sound, Fits, TaskOk, Agree}
-use Rattle.pages.specs.Holds.{Holds, HeldBy, TasksOk}
-use Rattle.device.specs.Lines.{Lines, Left, Work, yields}
+use Rattle.pages.specs.Page.{damaged}
+use Rattle.pages.specs.Sound.{TaskOk, Agree}
+use Rattle.pages.specs.Holds.{Holds}
+use Rattle.device.specs.Lines.{Lines, yields}
 use Rattle.device.specs.Does.{bind}
 use Rattle.device.specs.Safe.{Safe, s_end}
 use Rattle.device.proofs.Safe.{safe_bind, safe_more}
-use Rattle.store.specs.Layout.{slots, dir_words, root_words, next_of, bit_of, used_of, pick_of, turn_at, id_at, size_at, key_at, Mind, flipped_to, at_time}
-use Rattle.store.specs.Works.{load_plan, flip_to}
-use Rattle.store.specs.Shows.{Used, Shows, Counts}
-use Rattle.store.specs.Finds.{first_slot, by_id, by_key}
-use Rattle.store.proofs.Turns.{bit_low, turn_same, turn_other, turn_apart, turn_length, turn_small, turn_first}
-use Rattle.store.proofs.Slots.{body_fewer}
-use Rattle.store.proofs.Drafts.{Held, Draft, draft_start, draft_flip}
-use Rattle.engine.proofs.Stands.{who, Slot, Agrees, Stands, Fallen, held_fallen, held_stands, stands_fallen, Ends, Ever, Carries, carries_said, open_then, plan_then, change_carries}
-use Rattle.engine.proofs.Search.{slot_list, search_same, search_found, key_same, id_same, tasks_ok}
+use Rattle.store.specs.Layout.{dir_words, used_of, id_at, Mind}
+use Rattle.store.specs.Shows.{Used}
+use Rattle.engine.proofs.Stands.{who, Stands, stands_fallen, Ever, Carries, carries_said, open_then, change_carries}
 use Rattle.engine.proofs.Rules.{Rules}
-use Rattle.flows.specs.House.{Reply, Job, Nothing, Task as Todo, wanted, sooner, due_at}
+use Rattle.flows.specs.House.{Job, Nothing, Task as Todo, wanted, sooner, due_at}
 use Rattle.flows.specs.Summed.{stands_one}
-use Rattle.flows.specs.Seats.{Seats, Seated, nobody, put, answer, Found, sooned, better as betterFound, soonest, hands_seat}
+use Rattle.flows.specs.Seats.{Seats, Seated, put, answer, Found, sooned, better as betterFound, soonest, hands_seat}
 use Rattle.pages.specs.declared.flow.Task.{Task}
 use Rattle.pages.specs.Events.{handed_out, wanted_task, due_task, step_in}
 use Rattle.pages.specs.Holds.{job_of as todoOf, tasks_of}
 use Rattle.pages.proofs.Asked.{handed_held, wanted_held, due_held}
-use Rattle.device.specs.Does.{loop_from}
 use Rattle.device.proofs.Loops.{safe_loop}
 use Rattle.engine.specs.declared.take.Best.{Best}
-use Rattle.engine.specs.declared.take.Looking.{Looking}
-use Rattle.engine.specs.Works.{room, Answer, said, lost, by_flow, by_task, by_best, at_flow, open_work, changes, better, look_flow, look_turn, job_of, hand_flow, take_end, take_work}
+use Rattle.engine.specs.Works.{room, said, lost, by_flow, by_task, by_best, at_flow, open_work, changes, better, Looking, if_good, look_flow, look_turn, job_of, hand_flow, take_end, take_work}
 use Rattle.engine.proofs.Search.{used_or}
 
 -- a task that is there is one of a phase that waits for it
@@ -75,8 +63,9 @@ module _ {N : ℕ} {x : Mind} {k : Seats} {m : Lines} (big : 32768 ≤ N) (st : 
   -- the memory is as it was, and the best so far is the house's
   record Looked (i : ℕ) (a : Looking) (n : Lines) : Type 0 where
     pub here : n ≡ m
-    pub good : a.bad ≡ false
-    pub best : Matches x k a.best (soonest k.now ks i k.at)
+    pub found : Option Best
+    pub good : a ≡ Ok found
+    pub best : Matches x k found (soonest k.now ks i k.at)
 
   one_better : (i : ℕ) (u : Used x.page i) (t : Todo) (d : ℕ) (b : Option Best) (l : List Found) → (k.at i).task ≡ t ∷ [] → d ≡ due_at t.standing → t.flow ≡ id_at x.dir i
       → Matches x k b l → Matches x k (better i d (id_at x.dir i) b) (sooned i t l)
@@ -99,10 +88,10 @@ module _ {N : ℕ} {x : Mind} {k : Seats} {m : Lines} (big : 32768 ≤ N) (st : 
       go true = m_some (record { slot = i; due = d; flow = id_at x.dir i }) (record { slot = i; task = t }) refl due (sym id) u e
       go false = m_some c g s1 s2 s3 s4 s5
 
-  looked_flow : (i : ℕ) (u : Used x.page i) (a : Looking) (l : List Found) → a.bad ≡ false → Matches x k a.best l
-      → ((look_flow ks x i a (st.agrees.used i u).flow).bad ≡ false) × Matches x k (look_flow ks x i a (st.agrees.used i u).flow).best (betterFound k.now ks i (k.at i).task l)
+  looked_flow : (i : ℕ) (u : Used x.page i) (a : Option Best) (l : List Found) → Matches x k a l
+      → Matches x k (look_flow ks x i a (st.agrees.used i u).flow) (betterFound k.now ks i (k.at i).task l)
   unfolding look_flow betterFound
-  looked_flow i u a l good b = go (has x i (st.plan i) f (k.at i) h)
+  looked_flow i u a l b = go (has x i (st.plan i) f (k.at i) h)
     where
       f : Flow
       f = (st.agrees.used i u).flow
@@ -113,16 +102,16 @@ module _ {N : ℕ} {x : Mind} {k : Seats} {m : Lines} (big : 32768 ≤ N) (st : 
       todo : Task → Todo
       todo t = todoOf (id_at x.dir i) (step_in f.place.phase) t
 
-      b1 : Looking
-      b1 = record { bad = a.bad; best = better i (due_task f.task) (id_at x.dir i) a.best }
+      b1 : Option Best
+      b1 = better i (due_task f.task) (id_at x.dir i) a
 
       Fine : Bool → List Found → Type 0
-      Fine v g = ((cond v b1 a).bad ≡ false) × Matches x k (cond v b1 a).best g
+      Fine v g = Matches x k (cond v b1 a) g
 
       go : Has x i f (k.at i) → Fine (wanted_task x.now ks f.task) (betterFound k.now ks i (k.at i).task l)
       go (has_none e z) =
           subst (λ v. Fine v (betterFound k.now ks i (k.at i).task l)) (sym ((wanted_held x.now ks f room (st.plan i) (who x.dir i) (k.at i) h).1 z))
-          (subst (λ ts. Fine false (betterFound k.now ks i ts l)) (sym z) (good, b))
+          (subst (λ ts. Fine false (betterFound k.now ks i ts l)) (sym z) b)
       go (has_one t e z) =
           subst (λ ts. Fine (wanted_task x.now ks f.task) (betterFound k.now ks i ts l)) (sym z)
           (subst (λ v. Fine v (cond (wanted k.now ks (todo t)) (sooned i (todo t) l) l))
@@ -130,31 +119,32 @@ module _ {N : ℕ} {x : Mind} {k : Seats} {m : Lines} (big : 32768 ≤ N) (st : 
           (by (wanted k.now ks (todo t))))
         where
           by : (v : Bool) → Fine v (cond v (sooned i (todo t) l) l)
-          by true = (good, one_better i u (todo t) (due_task f.task) a.best l z (due_held f room (st.plan i) (todo t) (who x.dir i) (k.at i) z h) refl b)
-          by false = (good, b)
+          by true = one_better i u (todo t) (due_task f.task) a l z (due_held f room (st.plan i) (todo t) (who x.dir i) (k.at i) z h) refl b
+          by false = b
 
   calm : (n : Seats) → Ever N k n m
   calm n o l = inl (stands_fallen N x k m o st l)
 
   turn : (l : Seats) (i : ℕ) (a : Looking) (n : Lines) → i < 1024 → Looked i a n → Safe N (λ b o. Looked (i + 1) b o) (λ o. Ever N k l o) (look_turn ks x i a) n
-  unfolding look_turn by_flow soonest betterFound
-  turn l i a n hi w = subst (λ n. Safe N (λ b o. Looked (i + 1) b o) (λ o. Ever N k l o) (look_turn ks x i a) n) (sym w.here) (go (used_or x.page i hi))
+  unfolding look_turn by_flow if_good soonest betterFound
+  turn l i a n hi w = subst (λ n. Safe N (λ b o. Looked (i + 1) b o) (λ o. Ever N k l o) (look_turn ks x i a) n) (sym w.here)
+      (subst (λ a. Safe N (λ b o. Looked (i + 1) b o) (λ o. Ever N k l o) (look_turn ks x i a) m) (sym w.good) (go (used_or x.page i hi)))
     where
       next : soonest k.now ks (suc i) k.at ≡ soonest k.now ks (i + 1) k.at
       next = ap (λ j. soonest k.now ks j k.at) (sym (add-one i))
 
-      ends : (b : Looking) → b.bad ≡ false → Matches x k b.best (betterFound k.now ks i (k.at i).task (soonest k.now ks i k.at)) → Looked (i + 1) b m
-      ends b g e = record { here = refl; good = g; best = subst (Matches x k b.best) next e }
+      ends : (b : Option Best) → Matches x k b (betterFound k.now ks i (k.at i).task (soonest k.now ks i k.at)) → Looked (i + 1) (Ok b) m
+      ends b e = record { here = refl; found = b; good = refl; best = subst (Matches x k b) next e }
 
       go : Used x.page i ⊎ (used_of x.page i ≡ 0)
-          → Safe N (λ b o. Looked (i + 1) b o) (λ o. Ever N k l o) (cond (eqb (used_of x.page i) 1) (bind (open_work x i) (λ r. yields (by_flow r (record { bad = true; best = a.best }) (look_flow ks x i a)))) (yields a)) m
+          → Safe N (λ b o. Looked (i + 1) b o) (λ o. Ever N k l o) (cond (eqb (used_of x.page i) 1) (bind (open_work x i) (λ r. yields (by_flow r damaged (λ f. if_good (Ok w.found) (λ b. look_flow ks x i b f))))) (yields (Ok w.found))) m
       go (inl u) =
-          subst (λ v. Safe N (λ b o. Looked (i + 1) b o) (λ o. Ever N k l o) (cond v (bind (open_work x i) (λ r. yields (by_flow r (record { bad = true; best = a.best }) (look_flow ks x i a)))) (yields a)) m) (sym (eq-eqb _ _ u.1))
-          (open_then big st i u (λ r. yields (by_flow r (record { bad = true; best = a.best }) (look_flow ks x i a))) (calm l)
-          (let p = looked_flow i u a (soonest k.now ks i k.at) w.good w.best in s_end (calm l) (ends _ p.0 p.1)))
+          subst (λ v. Safe N (λ b o. Looked (i + 1) b o) (λ o. Ever N k l o) (cond v (bind (open_work x i) (λ r. yields (by_flow r damaged (λ f. if_good (Ok w.found) (λ b. look_flow ks x i b f))))) (yields (Ok w.found))) m) (sym (eq-eqb _ _ u.1))
+          (open_then big st i u (λ r. yields (by_flow r damaged (λ f. if_good (Ok w.found) (λ b. look_flow ks x i b f)))) (calm l)
+          (s_end (calm l) (ends _ (looked_flow i u w.found (soonest k.now ks i k.at) w.best))))
       go (inr z) =
-          subst (λ v. Safe N (λ b o. Looked (i + 1) b o) (λ o. Ever N k l o) (cond v (bind (open_work x i) (λ r. yields (by_flow r (record { bad = true; best = a.best }) (look_flow ks x i a)))) (yields a)) m) (sym (ne_eqb (used_of x.page i) 1 (λ e. omega arith)))
-          (s_end (calm l) (ends a w.good (subst (λ (o : One). Matches x k a.best (betterFound k.now ks i o.task (soonest k.now ks i k.at))) (sym (st.agrees.free i hi z)) w.best)))
+          subst (λ v. Safe N (λ b o. Looked (i + 1) b o) (λ o. Ever N k l o) (cond v (bind (open_work x i) (λ r. yields (by_flow r damaged (λ f. if_good (Ok w.found) (λ b. look_flow ks x i b f))))) (yields (Ok w.found))) m) (sym (ne_eqb (used_of x.page i) 1 (λ e. omega arith)))
+          (s_end (calm l) (ends w.found (subst (λ (o : One). Matches x k w.found (betterFound k.now ks i o.task (soonest k.now ks i k.at))) (sym (st.agrees.free i hi z)) w.best)))
 
   hand : (g : Found) (b : Best) → b.slot ≡ g.slot → Used x.page g.slot → (k.at g.slot).task ≡ g.task ∷ [] → Carries N k (hands_seat ms (g ∷ []) k) (at_flow x (hand_flow ms x) b.slot) m
   unfolding hands_seat at_flow by_flow hand_flow by_task
@@ -210,15 +200,14 @@ module _ {N : ℕ} {x : Mind} {k : Seats} {m : Lines} (big : 32768 ≤ N) (st : 
   unfolding take_work take_end by_best soonest
   take_carries =
       safe_bind (take_end ms x)
-      (safe_more (λ a n e w. subst (λ n. Carries N k target (take_end ms x a) n) (sym w.here) (go a.bad w.good a.best (soonest k.now ks 1024 k.at) w.best)) (λ n e. e)
-      (safe_loop (look_turn ks x) 1024 Looked (λ o. Ever N k target.seats o) (λ i a n w. subst (Ever N k target.seats) (sym w.here) (calm target.seats)) (turn target.seats) 0 1024 (record { bad = false; best = None }) m (omega arith)
-      (record { here = refl; good = refl; best = m_none })))
+      (safe_more (λ a n e w. subst (λ n. Carries N k target (take_end ms x a) n) (sym w.here) (subst (λ a. Carries N k target (take_end ms x a) m) (sym w.good) (go w.found (soonest k.now ks 1024 k.at) w.best))) (λ n e. e)
+      (safe_loop (look_turn ks x) 1024 Looked (λ o. Ever N k target.seats o) (λ i a n w. subst (Ever N k target.seats) (sym w.here) (calm target.seats)) (turn target.seats) 0 1024 (Ok None) m (omega arith)
+      (record { here = refl; found = None; good = refl; best = m_none })))
     where
       target : Seated
       target = hands_seat ms (soonest k.now ks 1024 k.at) k
 
-      go : (v : Bool) → v ≡ false → (b : Option Best) (l : List Found) → Matches x k b l
-          → Carries N k (hands_seat ms l k) (cond v (lost x) (by_best b (said Nothing x) (λ b. at_flow x (hand_flow ms x) b.slot))) m
-      go false e b l m_none = carries_said N x k m Nothing (hands_seat ms [] k) st long nothing_reply nothing_seats
-      go false e b l (m_some c g s1 s2 s3 s4 s5) = hand g c s1 s4 s5
-      go true e b l w = let bad : ◌≡◌ {A = ℕ} 0 1 = cc in absurd (omega arith)
+      go : (b : Option Best) (l : List Found) → Matches x k b l
+          → Carries N k (hands_seat ms l k) (by_best b (said Nothing x) (λ b. at_flow x (hand_flow ms x) b.slot)) m
+      go b l m_none = carries_said N x k m Nothing (hands_seat ms [] k) st long nothing_reply nothing_seats
+      go b l (m_some c g s1 s2 s3 s4 s5) = hand g c s1 s4 s5

@@ -1,50 +1,41 @@
 -- Time. Assumes nothing.
-use Rattle.std.proofs.Common.{◌≡◌, ℕ, zero, suc, ◌+◌, ◌-◌, ◌*◌, ◌/◌, ◌%◌, ◌<◌, ◌≤◌, min, Bool, true, false, cond, not, ◌&&◌, ◌||◌, eqb, ltb, leb, ◌⊎◌, List, [], ◌∷◌, map, length, get_or, Some, None, Ok, Err, Option, Result, sym, refl, ap, ◌∙◌, subst, inl, inr, arith, ltb-false, ltb-true, le-ltb, lt-ltb, eq-eqb, ne_eqb, eqb-true}
+use Rattle.std.proofs.Common.{◌≡◌, ℕ, ◌+◌, ◌/◌, ◌<◌, ◌≤◌, Bool, true, false, cond, eqb, ltb, ◌⊎◌, List, length, Some, None, Ok, Err, Option, Result, sym, refl, ap, ◌∙◌, subst, inl, inr, arith, ltb-false, ltb-true, le-ltb, lt-ltb, eq-eqb, ne_eqb, eqb-true}
 use borrow.Author.Tests.{eqb-false}
 use Rattle.plans.specs.declared.eval.Damaged.{Damaged}
-use Rattle.runs.specs.declared.step.Phase.{Phase}
-use Rattle.runs.specs.declared.step.Phase.TheVariants as phases
-use Rattle.runs.specs.Carried.{phase_in, listening}
 use Rattle.flows.specs.One.{One}
-use Rattle.runs.specs.Machine.{FlatFlow}
 use Rattle.pages.specs.declared.flow.Flow.{Flow}
-use Rattle.pages.specs.Page.{encode_of}
+use Rattle.pages.specs.Page.{damaged, encode_of}
 use Rattle.pages.specs.Sound.{Sound, Fits}
 use Rattle.pages.specs.Holds.{Holds, HeldBy, TasksOk}
 use Rattle.device.specs.Lines.{Lines, Left, Work, yields}
 use Rattle.device.specs.Does.{bind}
 use Rattle.device.specs.Safe.{Safe, s_end}
 use Rattle.device.proofs.Safe.{safe_bind, safe_more}
-use Rattle.store.specs.Layout.{slots, dir_words, root_words, next_of, bit_of, used_of, pick_of, turn_at, id_at, size_at, key_at, Mind, flipped_to, at_time}
+use Rattle.store.specs.Layout.{slots, dir_words, next_of, used_of, pick_of, turn_at, Mind, flipped_to, at_time}
 use Rattle.store.specs.Works.{load_plan, flip_to}
-use Rattle.store.specs.Shows.{Used, Shows, Counts}
-use Rattle.store.specs.Finds.{first_slot, by_id, by_key}
-use Rattle.store.proofs.Turns.{bit_low, turn_same, turn_other, turn_apart, turn_length, turn_small, turn_first}
-use Rattle.store.proofs.Slots.{body_fewer}
+use Rattle.store.specs.Shows.{Used, Counts}
+use Rattle.store.proofs.Turns.{turn_other, turn_first}
 use Rattle.store.proofs.Drafts.{Held, Draft, draft_start, draft_flip}
-use Rattle.engine.proofs.Stands.{who, Slot, Agrees, Stands, Fallen, held_fallen, held_stands, stands_fallen, Ends, Ever, Carries, carries_said, open_then, plan_then, change_carries}
-use Rattle.engine.proofs.Search.{slot_list, search_same, search_found, key_same, id_same, tasks_ok}
+use Rattle.engine.proofs.Stands.{who, Slot, Agrees, Stands, Fallen, held_fallen, Ever, Carries}
 use Rattle.engine.proofs.Rules.{Rules}
-use Rattle.flows.specs.House.{Reply, Yes, No}
+use Rattle.flows.specs.House.{Yes}
 use Rattle.flows.specs.One.{ticked_one}
-use Rattle.flows.specs.Seats.{Seats, Seated, nobody, answer}
+use Rattle.flows.specs.Seats.{Seats, nobody, answer}
 use Rattle.pages.specs.Page.{decode_of}
 use Rattle.pages.specs.Events.{ticked_on, stirring}
 use Rattle.pages.proofs.Codes.{decodes_encoded, encodes_page, encodes_small}
 use Rattle.pages.proofs.Ticks.{ticked_held, stays_held}
-use Rattle.device.specs.Does.{loop_from}
 use Rattle.device.specs.Images.{Image, All, None as Nothing, At}
 use Rattle.device.specs.Flips.{Amid}
 use Rattle.device.proofs.Loops.{safe_loop}
 use Rattle.device.proofs.Commit.{amid_rests}
 use Rattle.words.proofs.Drafting.{drafting_amid}
-use Rattle.store.specs.Works.{load_page, save_page}
+use Rattle.store.specs.Works.{load_page}
 use Rattle.store.specs.Layout.{page_at, page_words}
-use Rattle.blocks.specs.Works.{load_via}
+use Rattle.words.specs.Works.{load_via}
 use Rattle.store.proofs.Where.{shows_agree}
-use Rattle.store.proofs.Drafts.{Told, told, Decodes, draft_load_page, draft_load_plan, draft_page, used_turned}
-use Rattle.engine.specs.declared.time.Ticking.{Ticking}
-use Rattle.engine.specs.Works.{room, Answer, said, lost, by_flow, open_work, spoilt, tick_save, tick_plan, tick_flow, tick_turn, tick_end, tick_work}
+use Rattle.store.proofs.Drafts.{told, Decodes, draft_load_page, draft_load_plan, draft_page, used_turned}
+use Rattle.engine.specs.Works.{room, said, by_flow, open_work, Changed, root_of, turned, tick_save, tick_plan, tick_flow, tick_turn, tick_end, tick_work}
 use Rattle.engine.proofs.Stands.{small_same}
 use Rattle.engine.proofs.Search.{used_or}
 
@@ -81,15 +72,16 @@ module _ {N : ℕ} {x : Mind} {k : Seats} {m : Lines} (big : 32768 ≤ N) (st : 
   abbrev up_to : (i j : ℕ) → One
   up_to i j = cond (ltb j i) (ticked_one t (k.at j)) (k.at j)
 
-  record Gone (i : ℕ) (a : Ticking) (n : Lines) : Type 0 where
-    pub good : a.bad ≡ false
+  record Gone (i : ℕ) (a : Changed) (n : Lines) : Type 0 where
+    pub changed : Option (List ℕ)
+    pub good : a ≡ Ok changed
     pub page : ℕ → List ℕ
-    pub draft : Draft N x st.image a.page x.dir page st.plan n
+    pub draft : Draft N x st.image (root_of x changed) x.dir page st.plan n
     pub slot : (j : ℕ) → Used x.page j → Slot x.dir (up_to i j) (page j) (st.plan j) j
-    pub picks : (j : ℕ) → i ≤ j → j < slots → pick_of a.page j ≡ pick_of x.page j
-    pub used : (j : ℕ) → j < slots → used_of a.page j ≡ used_of x.page j
-    pub next : next_of a.page ≡ next_of x.page
-    pub idle : a.any ≡ false → At st.image All Nothing n × ((j : ℕ) → Used x.page j → up_to i j ≡ k.at j)
+    pub picks : (j : ℕ) → i ≤ j → j < slots → pick_of (root_of x changed) j ≡ pick_of x.page j
+    pub used : (j : ℕ) → j < slots → used_of (root_of x changed) j ≡ used_of x.page j
+    pub next : next_of (root_of x changed) ≡ next_of x.page
+    pub idle : changed ≡ None → At st.image All Nothing n × ((j : ℕ) → Used x.page j → up_to i j ≡ k.at j)
 
   lines : x.lines ≡ N
   lines = st.shows.lines
@@ -102,12 +94,13 @@ module _ {N : ℕ} {x : Mind} {k : Seats} {m : Lines} (big : 32768 ≤ N) (st : 
   amid : (n : Lines) → Amid (Counts x) st.image n → Ever N k after n
   amid n a o l = inl (old n o a l)
 
-  calm : (i : ℕ) (a : Ticking) (n : Lines) → Gone i a n → Ever N k after n
+  calm : (i : ℕ) (a : Changed) (n : Lines) → Gone i a n → Ever N k after n
   calm i a n w = amid n (drafting_amid w.draft.drafting)
 
   -- a slot that stays as it is
-  stay : (i : ℕ) (a : Ticking) (n : Lines) → i < 1024 → (w : Gone i a n) → (Used x.page i → ticked_one t (k.at i) ≡ k.at i) → Gone (i + 1) a n
+  stay : (i : ℕ) (a : Changed) (n : Lines) → i < 1024 → (w : Gone i a n) → (Used x.page i → ticked_one t (k.at i) ≡ k.at i) → Gone (i + 1) a n
   stay i a n hi w same = record {
+    changed = w.changed;
     good = w.good;
     page = w.page;
     draft = w.draft;
@@ -127,24 +120,24 @@ module _ {N : ℕ} {x : Mind} {k : Seats} {m : Lines} (big : 32768 ≤ N) (st : 
       is j u false b = ap (λ v. cond v (ticked_one t (k.at j)) (k.at j)) (below_same j i (eqb-false j i b))
 
   -- a slot that goes on
-  saved : (i : ℕ) (a : Ticking) (n : Lines) (u : Used x.page i) (w : Gone i a n) (f : Flow) → Holds room (st.plan i) f (who x.dir i) (ticked_one t (k.at i)) → Fits f
+  saved : (i : ℕ) (a : Changed) (n : Lines) (u : Used x.page i) (w : Gone i a n) (f : Flow) → Holds room (st.plan i) f (who x.dir i) (ticked_one t (k.at i)) → Fits f
       → Safe N (λ b o. Gone (i + 1) b o) (λ o. Ever N k after o) (tick_save x i a f) n
   unfolding tick_save
   saved i a n u w f h fits =
-      safe_bind (λ z. yields b)
-      (safe_more (λ z o e d. s_end e (gone o d)) (λ o e. e)
+      safe_bind (λ z. yields (turned x i a))
+      (safe_more (λ z o e d. s_end e (subst (λ c. Gone (i + 1) (turned x i c) o) (sym w.good) (gone o d))) (λ o e. e)
       (draft_page big w.draft i (encode_of f) lines u uq (w.picks i (omega arith) u.0) (encodes_page f h.sound) (small_same (encode_of f) (encodes_small f fits)) (λ o c. amid o c)))
     where
-      b : Ticking
-      b = record { bad = a.bad; any = true; page = turn_at 17 i a.page }
+      q : List ℕ
+      q = root_of x w.changed
 
-      uq : Used a.page i
+      uq : Used q i
       uq = (u.0, w.used i u.0 ∙ u.1)
 
       fp : ℕ → List ℕ
       fp j = cond (eqb j i) (encode_of f) (w.page j)
 
-      inside : 17 + i / 64 < length a.page
+      inside : 17 + i / 64 < length q
       inside = let z = u.0 in omega (arith, w.draft.long)
 
       slot : (j : ℕ) → Used x.page j → (v : Bool) → eqb j i ≡ v → Slot x.dir (up_to (i + 1) j) (cond v (encode_of f) (w.page j)) (st.plan j) j
@@ -155,28 +148,29 @@ module _ {N : ℕ} {x : Mind} {k : Seats} {m : Lines} (big : 32768 ≤ N) (st : 
           (subst (λ n. Slot x.dir (ticked_one t (k.at n)) (encode_of f) (st.plan n) n) (sym e) (record { flow = f; is = refl; holds = h; fits = fits; small = s.small; long = s.long }))
       slot j uj false v = subst (λ o. Slot x.dir o (w.page j) (st.plan j) j) (sym (ap (λ v. cond v (ticked_one t (k.at j)) (k.at j)) (below_same j i (eqb-false j i v)))) (w.slot j uj)
 
-      gone : (o : Lines) → Draft N x st.image (turn_at 17 i a.page) x.dir fp st.plan o → Gone (i + 1) b o
+      gone : (o : Lines) → Draft N x st.image (turn_at 17 i q) x.dir fp st.plan o → Gone (i + 1) (Ok (Some (turn_at 17 i q))) o
       gone o d = record {
-        good = w.good;
+        changed = Some (turn_at 17 i q);
+        good = refl;
         page = fp;
         draft = d;
         slot = λ j uj. slot j uj (eqb j i) refl;
-        picks = λ j lo hj. turn_other 17 a.page i j (λ e. omega arith) inside ∙ w.picks j (omega arith) hj;
-        used = λ j hj. used_turned a.page i j u.0 hj ∙ w.used j hj;
-        next = ap (λ v. v + 1) (turn_first 17 a.page i (omega arith)) ∙ w.next;
+        picks = λ j lo hj. turn_other 17 q i j (λ e. omega arith) inside ∙ w.picks j (omega arith) hj;
+        used = λ j hj. used_turned q i j u.0 hj ∙ w.used j hj;
+        next = ap (λ v. v + 1) (turn_first 17 q i (omega arith)) ∙ w.next;
         idle = λ e. let z : ◌≡◌ {A = ℕ} 0 1 = cc in absurd (omega arith);
       }
 
   -- where power fails it was not done
-  turn : (i : ℕ) (a : Ticking) (n : Lines) → i < 1024 → Gone i a n → Safe N (λ b o. Gone (i + 1) b o) (λ o. Ever N k after o) (tick_turn t x i a) n
+  turn : (i : ℕ) (a : Changed) (n : Lines) → i < 1024 → Gone i a n → Safe N (λ b o. Gone (i + 1) b o) (λ o. Ever N k after o) (tick_turn t x i a) n
   unfolding tick_turn tick_flow tick_plan by_flow
   turn i a n hi w = go (used_or x.page i hi)
     where
       r : Ever N k after n
       r = calm i a n w
 
-      body : Work Ticking
-      body = bind (open_work x i) (λ v. by_flow v (yields (spoilt a)) (tick_flow t x i a))
+      body : Work Changed
+      body = bind (open_work x i) (λ v. by_flow v (yields damaged) (tick_flow t x i a))
 
       go : Used x.page i ⊎ (used_of x.page i ≡ 0) → Safe N (λ b o. Gone (i + 1) b o) (λ o. Ever N k after o) (cond (eqb (used_of x.page i) 1) body (yields a)) n
       go (inr z) =
@@ -184,7 +178,7 @@ module _ {N : ℕ} {x : Mind} {k : Seats} {m : Lines} (big : 32768 ≤ N) (st : 
           (s_end r (stay i a n hi w (λ u. absurd (omega (arith, u.1)))))
       go (inl u) =
           subst (λ v. Safe N (λ b o. Gone (i + 1) b o) (λ o. Ever N k after o) (cond v body (yields a)) n) (sym (eq-eqb _ _ u.1))
-          (draft_open big lines w.draft i f (λ v. by_flow v (yields (spoilt a)) (tick_flow t x i a)) uq (w.picks i (omega arith) hi) s.is s.holds.sound r
+          (draft_open big lines w.draft i f (λ v. by_flow v (yields damaged) (tick_flow t x i a)) uq (w.picks i (omega arith) hi) s.is s.holds.sound r
           (by (stirring t f) refl))
         where
           s : Slot x.dir (up_to i i) (w.page i) (st.plan i) i
@@ -193,7 +187,7 @@ module _ {N : ℕ} {x : Mind} {k : Seats} {m : Lines} (big : 32768 ≤ N) (st : 
           f : Flow
           f = s.flow
 
-          uq : Used a.page i
+          uq : Used (root_of x w.changed) i
           uq = (hi, w.used i hi ∙ u.1)
 
           here : up_to i i ≡ k.at i
@@ -206,7 +200,7 @@ module _ {N : ℕ} {x : Mind} {k : Seats} {m : Lines} (big : 32768 ≤ N) (st : 
           few = let q = s.long in omega arith
 
           goes : (v : Result Flow Damaged) → ticked_on room (st.plan i) t f ≡ v → HeldBy room (st.plan i) v (who x.dir i) (ticked_one t (k.at i))
-              → Safe N (λ b o. Gone (i + 1) b o) (λ o. Ever N k after o) (by_flow v (yields (spoilt a)) (tick_save x i a)) n
+              → Safe N (λ b o. Gone (i + 1) b o) (λ o. Ever N k after o) (by_flow v (yields damaged) (tick_save x i a)) n
           goes (Ok g) e hold = saved i a n u w g hold (rules.ticked room (st.plan i) t f g s.small few (omega arith) h.sound s.fits e)
           goes (Err d) e hold = absurd hold
 
@@ -223,11 +217,12 @@ module _ {N : ℕ} {x : Mind} {k : Seats} {m : Lines} (big : 32768 ≤ N) (st : 
   unfolding tick_work tick_end
   tick_carries empty =
       safe_bind (tick_end t x)
-      (safe_more (λ a n e w. go a n w a.bad refl a.any refl) (λ n e. e)
-      (safe_loop (tick_turn t x) 1024 Gone (λ o. Ever N k after o) calm turn 0 1024 (record { bad = false; any = false; page = x.page }) m (omega arith) first))
+      (safe_more (λ a n e w. subst (λ a. Carries N k (answer Yes after) (tick_end t x a) n) (sym w.good) (go a n w w.changed refl)) (λ n e. e)
+      (safe_loop (tick_turn t x) 1024 Gone (λ o. Ever N k after o) calm turn 0 1024 (Ok None) m (omega arith) first))
     where
-      first : Gone 0 (record { bad = false; any = false; page = x.page }) m
+      first : Gone 0 (Ok None) m
       first = record {
+        changed = None;
         good = refl;
         page = st.page;
         draft = draft_start N x st.image st.page st.plan m st.at st.shows;
@@ -244,10 +239,8 @@ module _ {N : ℕ} {x : Mind} {k : Seats} {m : Lines} (big : 32768 ≤ N) (st : 
       free : (j : ℕ) → j < slots → used_of x.page j ≡ 0 → ticked_one t (k.at j) ≡ nobody
       free j hj z = ap (ticked_one t) (st.agrees.free j hj z) ∙ empty
 
-      go : (a : Ticking) (n : Lines) → Gone 1024 a n → (b : Bool) → a.bad ≡ b → (c : Bool) → a.any ≡ c
-          → Carries N k (answer Yes after) (cond b (lost x) (cond c (bind (flip_to x.word a.page) (λ z. said Yes (at_time t (flipped_to x a.page x.dir)))) (said Yes (at_time t x)))) n
-      go a n w true eb c ec = let q : false ≡ true = sym w.good ∙ eb in let z : ◌≡◌ {A = ℕ} 0 1 = cc in absurd (omega arith)
-      go a n w false eb false ec =
+      go : (a : Changed) (n : Lines) (w : Gone 1024 a n) (o : Option (List ℕ)) → w.changed ≡ o → Carries N k (answer Yes after) (tick_end t x (Ok w.changed)) n
+      go a n w None ec = subst (λ o. Carries N k (answer Yes after) (tick_end t x (Ok o)) n) (sym ec) (
           s_end (calm 1024 a n w) (
             refl,
             record {
@@ -266,15 +259,22 @@ module _ {N : ℕ} {x : Mind} {k : Seats} {m : Lines} (big : 32768 ≤ N) (st : 
               };
             },
             long,
-          )
-      go a n w false eb true ec =
-          safe_bind (λ z. said Yes (at_time t y))
-          (safe_more (λ z o e c. s_end (ever o e) (refl, stands o c, long)) ever (draft_flip big w.draft st.shows))
+          ))
+      go a n w (Some c) ec = subst (λ o. Carries N k (answer Yes after) (tick_end t x (Ok o)) n) (sym ec)
+          (subst (λ v. Carries N k (answer Yes after) (bind (flip_to x.word v) (λ z. said Yes (at_time t (flipped_to x v x.dir)))) n) root
+          (safe_bind (λ z. said Yes (at_time t y))
+          (safe_more (λ z o e c. s_end (ever o e) (refl, stands o c, long)) ever (draft_flip big w.draft st.shows))))
         where
-          y : Mind
-          y = flipped_to x a.page x.dir
+          q : List ℕ
+          q = root_of x w.changed
 
-          was : (j : ℕ) → Used a.page j → Used x.page j
+          root : q ≡ c
+          root = ap (root_of x) ec
+
+          y : Mind
+          y = flipped_to x q x.dir
+
+          was : (j : ℕ) → Used q j → Used x.page j
           was j v = (v.0, sym (w.used j v.0) ∙ v.1)
 
           agrees : (t' : ℕ) → t' < 4611686018427387904 → Agrees (at_time t' y) w.page st.plan (record { now = t'; next = k.next; at = λ (i : ℕ). ticked_one t (k.at i) })

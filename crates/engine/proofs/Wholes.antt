@@ -1,28 +1,26 @@
 -- The main theorem. Assumes nothing.
-use Rattle.std.proofs.Common.{◌≡◌, ℕ, zero, suc, ◌+◌, ◌-◌, ◌*◌, ◌<◌, ◌≤◌, Bool, true, false, cond, not, ◌&&◌, ◌||◌, T, eqb, ltb, leb, ◌⊎◌, List, [], ◌∷◌, length, sym, refl, ap, ◌∙◌, subst, inl, inr, arith, ltb-false, ltb-true}
-use Rattle.plans.specs.Plan.{Name, Block, size_of, name_ok, top}
+use Rattle.std.proofs.Common.{◌≡◌, ℕ, ◌<◌, ◌≤◌, Bool, true, false, cond, not, ◌&&◌, ◌||◌, T, eqb, ltb, ◌⊎◌, List, [], ◌∷◌, length, sym, refl, ap, ◌∙◌, subst, inl, inr, arith, ltb-false, ltb-true}
+use Rattle.plans.specs.Plan.{size_of, name_ok}
 use Rattle.plans.specs.Flat.{laid}
 use Rattle.flows.specs.House.{House, blank, down, Call, Start, Tell, Cancel, Take, Longer, Report, Show, Forget, Tick, is_tick, carried, Reply, No, Yes, later, small}
 use Rattle.flows.specs.One.{ticked_one, late_all, woken_all}
-use Rattle.flows.specs.Promise.{Answers, says_so, not_yet, not_carried, flows, Whole}
-use Rattle.flows.specs.Seats.{Seats, Seated, Sits, nobody, no_seats, refuse, answer, down_seats, acts_seats, does_seats, bad_start, flow_at, shows_flow, forgets_flow, cancels_flow, ticks_seats, starts_seat, key_seat, hands_seat, soonest, seat_count, task_at, longer_task}
+use Rattle.flows.specs.Promise.{Answers, not_yet, not_carried, flows}
+use Rattle.flows.specs.Seats.{Seats, Sits, nobody, no_seats, refuse, answer, down_seats, acts_seats, does_seats, bad_start, flow_at, shows_flow, forgets_flow, cancels_flow, ticks_seats, starts_seat, key_seat, hands_seat, soonest, seat_count, task_at, longer_task}
 use Rattle.flows.proofs.Seats.{seats_stand}
 use Rattle.pages.specs.Holds.{TasksOk}
 use Rattle.pages.specs.Sound.{Small as PSmall}
 use Rattle.pages.proofs.Fitting.{fitting}
-use Rattle.device.specs.Lines.{Lines, Left, Work, yields, Sensible, Modest}
+use Rattle.device.specs.Lines.{Lines, Left}
 use Rattle.device.specs.Safe.{Safe, s_end, Kept}
 use Rattle.device.proofs.Safe.{safe_more}
 use Rattle.device.proofs.Kept.{dark_sense, dark_within, light_within}
 use Rattle.words.specs.Runs.{Small}
-use Rattle.store.specs.Layout.{slots, dir_words, used_of, next_of, root_words, Mind}
+use Rattle.store.specs.Layout.{slots, dir_words, Mind}
 use Rattle.store.specs.Works.{rise_work}
-use Rattle.store.specs.Shows.{Used}
 use Rattle.store.proofs.Rising.{rising, risen, new_mind, fresh_held, dir_read, fresh_next, fresh_none, fresh_long}
-use Rattle.store.proofs.Drafts.{Held}
 use Rattle.engine.specs.Works.{Answer, said, acts, built, does, the_engine, start_work, at_slot, key_slot, id_slot, cancel_flow, show_flow, forget_flow, longer_flow, take_work, tick_work}
 use Rattle.engine.specs.Whole.{EngineWhole}
-use Rattle.engine.proofs.Stands.{Slot, Agrees, Stands, Fallen, stands_fallen, Ends, Ever, Carries, carries_said}
+use Rattle.engine.proofs.Stands.{Stands, Fallen, stands_fallen, Carries, carries_said}
 use Rattle.engine.proofs.Search.{tasks_ok}
 use Rattle.engine.proofs.Rules.{Rules}
 use Rattle.engine.proofs.ByKey.{at_key, show_carries, cancel_carries, forget_carries}
@@ -30,7 +28,7 @@ use Rattle.engine.proofs.ByTry.{longer_carries, report_carries}
 use Rattle.engine.proofs.Takes.{take_carries}
 use Rattle.engine.proofs.Ticks.{tick_carries}
 use Rattle.engine.proofs.Born.{slot_dir}
-use Rattle.engine.proofs.Starting.{fair_start, start_carries, or_left, or_right, and_left, and_right}
+use Rattle.engine.proofs.Starting.{fair_start, start_carries, or_right, and_left, and_right}
 
 -- words' Small is the pages' own
 words : (ws : List ℕ) → Small ws → PSmall ws

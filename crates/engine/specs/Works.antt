@@ -1,18 +1,16 @@
 -- The work of each call. Assumes nothing.
-use Rattle.std.specs.Prelude.{◌≡◌, ℕ, zero, suc, ◌+◌, ◌-◌, ◌*◌, ◌%◌, ◌<◌, ◌≤◌, Bool, true, false, cond, not, ◌&&◌, ◌||◌, List, [], ◌∷◌, length, take, Some, None, Ok, Err, Option, Result, ◌==◌, nat_le, nat_lt}
+use Rattle.std.specs.Prelude.{ℕ, ◌+◌, ◌-◌, ◌*◌, ◌%◌, Bool, true, false, cond, not, ◌&&◌, ◌||◌, List, [], length, take, Some, None, Ok, Err, Option, Result, ◌==◌, nat_le, nat_lt}
 use Rattle.plans.specs.declared.eval.Damaged.{Damaged}
-use Rattle.plans.specs.Plan.{Name, Block, size_of, name_ok}
+use Rattle.plans.specs.Plan.{Name, size_of, name_ok}
 use Rattle.plans.specs.Flat.{laid}
-use Rattle.runs.specs.declared.step.Phase.{Phase}
 use Rattle.runs.specs.Carried.{phase_in, listening}
 use Rattle.flows.specs.House.{Call, Start, Tell, Cancel, Take, Longer, Report, Show, Forget, Tick, is_tick, carried, Reply, No, Yes, Flow', Job, Nothing, State, Full', later, small}
 use Rattle.flows.specs.Seats.{bad_start}
 use Rattle.pages.specs.declared.flow.Flow.{Flow}
 use Rattle.pages.specs.declared.flow.Task.{Task}
-use Rattle.pages.specs.declared.flow.Tried.{Tried}
-use Rattle.pages.specs.declared.flow.Tried.TheVariants as tries
-use Rattle.pages.specs.Page.{decode_of, encode_of}
-use Rattle.pages.specs.Events.{begun, worked_on, wrong_on, ticked_on, stirring, handed_out, wanted_task, due_task, step_in, tried_task, over_in, cancelled_of}
+use Rattle.pages.specs.declared.flow.Untried.TheVariants as untried
+use Rattle.pages.specs.Page.{damaged, decode_of, encode_of}
+use Rattle.pages.specs.Events.{begun, worked_on, wrong_on, ticked_on, stirring, handed_out, wanted_task, due_task, step_in, Tried, tried_task, over_in, cancelled_of}
 use Rattle.device.specs.Lines.{Work, yields, Engine}
 use Rattle.device.specs.Does.{bind, loop_from}
 use Rattle.store.specs.Layout.{next_of, used_of, pick_of, turn_at, id_at, blocks_for, Mind, flipped_to, at_time}
@@ -21,8 +19,6 @@ use Rattle.store.specs.Finds.{first_slot, by_id, by_key, is_free, weight_over}
 use Rattle.store.specs.Room.{marked, chosen, looked_at}
 use Rattle.store.specs.Entry.{entry_of, put_entry, bumped}
 use Rattle.engine.specs.declared.take.Best.{Best}
-use Rattle.engine.specs.declared.take.Looking.{Looking}
-use Rattle.engine.specs.declared.time.Ticking.{Ticking}
 
 -- how many values an expression may have on its stack
 abbrev pub room : ℕ
@@ -47,9 +43,9 @@ by_flow (Err e) a f = a
 by_flow (Ok x) a f = f x
 
 unfoldable pub by_tried : {A : Type 0} → Tried → A → A → A → A
-by_tried tries.NoTask a b c = a
-by_tried tries.NotOut a b c = b
-by_tried tries.Out a b c = c
+by_tried (Err untried.NoTask) a b c = a
+by_tried (Err untried.NotOut) a b c = b
+by_tried (Ok z) a b c = c
 
 unfoldable pub by_task : {A : Type 0} → Option Task → A → (Task → A) → A
 by_task None a f = a
@@ -120,11 +116,20 @@ unfoldable pub better : (slot due flow : ℕ) → Option Best → Option Best
 better i d j None = Some (record { slot = i; due = d; flow = j })
 better i d j (Some b) = cond (nat_lt d b.due || (d == b.due && nat_lt j b.flow)) (Some (record { slot = i; due = d; flow = j })) (Some b)
 
-unfoldable pub look_flow : List ℕ → Mind → (slot : ℕ) → Looking → Flow → Looking
-look_flow ks x i a f = cond (wanted_task x.now ks f.task) (record { bad = a.bad; best = better i (due_task f.task) (id_at x.dir i) a.best }) a
+unfoldable pub look_flow : List ℕ → Mind → (slot : ℕ) → Option Best → Flow → Option Best
+look_flow ks x i b f = cond (wanted_task x.now ks f.task) (better i (due_task f.task) (id_at x.dir i) b) b
 
+-- the best so far, or that a page was of no flow
+abbrev pub Looking : Type 0
+Looking = Result (Option Best) Damaged
+
+unfoldable pub if_good : Looking → (Option Best → Option Best) → Looking
+if_good (Err d) f = Err d
+if_good (Ok b) f = Ok (f b)
+
+-- all slots in use are looked at, whatever was found
 unfoldable pub look_turn : List ℕ → Mind → (slot : ℕ) → Looking → Work Looking
-look_turn ks x i a = cond (used_of x.page i == 1) (bind (open_work x i) (λ r. yields (by_flow r (record { bad = true; best = a.best }) (look_flow ks x i a)))) (yields a)
+look_turn ks x i a = cond (used_of x.page i == 1) (bind (open_work x i) (λ r. yields (by_flow r damaged (λ f. if_good a (λ b. look_flow ks x i b f))))) (yields a)
 
 abbrev pub job_of : Mind → (slot : ℕ) → Flow → Task → Reply
 job_of x i f u = Job (id_at x.dir i) (step_in f.place.phase) (u.attempt % 65536) (u.kind % 4294967296) (take u.count u.args)
@@ -133,32 +138,46 @@ unfoldable pub hand_flow : (ms : ℕ) → Mind → (slot : ℕ) → Flow → Wor
 hand_flow ms x i f = by_task f.task (lost x) (λ u. changes x i (job_of x i f u) (handed_out (x.now + ms) f))
 
 unfoldable pub take_end : (ms : ℕ) → Mind → Looking → Work Answer
-take_end ms x a = cond a.bad (lost x) (by_best a.best (said Nothing x) (λ b. at_flow x (hand_flow ms x) b.slot))
+take_end ms x (Err d) = lost x
+take_end ms x (Ok a) = by_best a (said Nothing x) (λ b. at_flow x (hand_flow ms x) b.slot)
 
 unfoldable pub take_work : List ℕ → (ms : ℕ) → Mind → Work Answer
-take_work ks ms x = bind (loop_from (look_turn ks x) 0 1024 (record { bad = false; best = None })) (take_end ms x)
+take_work ks ms x = bind (loop_from (look_turn ks x) 0 1024 (Ok None)) (take_end ms x)
 
 -- TIME: each flow that stirs goes on, and one flip makes all of it count
-abbrev pub spoilt : Ticking → Ticking
-spoilt a = record { bad = true; any = a.any; page = a.page }
 
-unfoldable pub tick_save : Mind → (slot : ℕ) → Ticking → Flow → Work Ticking
-tick_save x i a f = bind (save_page x.lines x.dir i (1 - pick_of x.page i) (encode_of f)) (λ z. yields (record { bad = a.bad; any = true; page = turn_at 17 i a.page }))
+-- the root page as it is to be, if some flow has changed, or that a page was of no flow
+abbrev pub Changed : Type 0
+Changed = Result (Option (List ℕ)) Damaged
 
-unfoldable pub tick_plan : (time : ℕ) → Mind → (slot : ℕ) → Ticking → Flow → List ℕ → Work Ticking
-tick_plan t x i a f ws = by_flow (ticked_on room ws t f) (yields (spoilt a)) (tick_save x i a)
+abbrev pub root_of : Mind → Option (List ℕ) → List ℕ
+root_of x None = x.page
+root_of x (Some q) = q
 
-unfoldable pub tick_flow : (time : ℕ) → Mind → (slot : ℕ) → Ticking → Flow → Work Ticking
+-- the other copy of a slot's page shall count
+abbrev pub turned : Mind → (slot : ℕ) → Changed → Changed
+turned x i (Err d) = Err d
+turned x i (Ok o) = Ok (Some (turn_at 17 i (root_of x o)))
+
+unfoldable pub tick_save : Mind → (slot : ℕ) → Changed → Flow → Work Changed
+tick_save x i a f = bind (save_page x.lines x.dir i (1 - pick_of x.page i) (encode_of f)) (λ z. yields (turned x i a))
+
+unfoldable pub tick_plan : (time : ℕ) → Mind → (slot : ℕ) → Changed → Flow → List ℕ → Work Changed
+tick_plan t x i a f ws = by_flow (ticked_on room ws t f) (yields damaged) (tick_save x i a)
+
+unfoldable pub tick_flow : (time : ℕ) → Mind → (slot : ℕ) → Changed → Flow → Work Changed
 tick_flow t x i a f = cond (stirring t f) (bind (load_plan x.lines x.dir i) (tick_plan t x i a f)) (yields a)
 
-unfoldable pub tick_turn : (time : ℕ) → Mind → (slot : ℕ) → Ticking → Work Ticking
-tick_turn t x i a = cond (used_of x.page i == 1) (bind (open_work x i) (λ r. by_flow r (yields (spoilt a)) (tick_flow t x i a))) (yields a)
+unfoldable pub tick_turn : (time : ℕ) → Mind → (slot : ℕ) → Changed → Work Changed
+tick_turn t x i a = cond (used_of x.page i == 1) (bind (open_work x i) (λ r. by_flow r (yields damaged) (tick_flow t x i a))) (yields a)
 
-unfoldable pub tick_end : (time : ℕ) → Mind → Ticking → Work Answer
-tick_end t x a = cond a.bad (lost x) (cond a.any (bind (flip_to x.word a.page) (λ z. said Yes (at_time t (flipped_to x a.page x.dir)))) (said Yes (at_time t x)))
+unfoldable pub tick_end : (time : ℕ) → Mind → Changed → Work Answer
+tick_end t x (Err d) = lost x
+tick_end t x (Ok None) = said Yes (at_time t x)
+tick_end t x (Ok (Some q)) = bind (flip_to x.word q) (λ z. said Yes (at_time t (flipped_to x q x.dir)))
 
 unfoldable pub tick_work : (time : ℕ) → Mind → Work Answer
-tick_work t x = bind (loop_from (tick_turn t x) 0 1024 (record { bad = false; any = false; page = x.page })) (tick_end t x)
+tick_work t x = bind (loop_from (tick_turn t x) 0 1024 (Ok None)) (tick_end t x)
 
 -- START
 unfoldable pub born_work : Mind → (slot : ℕ) → (entry dir root plan : List ℕ) → Flow → Work Answer

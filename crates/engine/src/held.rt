@@ -1,5 +1,5 @@
 // What the house holds in memory that does not last, and a slot's flow opened and shut.
-ghost use Rattle.std.specs.Prelude.{◌≡◌, ℕ, ◌+◌, ◌-◌, ◌*◌, ◌%◌, ◌<◌, ◌≤◌, length};
+ghost use Rattle.std.specs.Prelude.{◌≡◌, ℕ, ◌-◌, ◌%◌};
 ghost use Rattle.device.specs.Does.{Did};
 ghost use Rattle.store.specs.Layout.{turn_at};
 ghost use Rattle.engine.specs.Works.{open_work, shut_work};
@@ -9,46 +9,45 @@ use device::Device;
 use pages::flow::Flow;
 use pages::page::{decode, encode};
 use plans::eval::Damaged;
-use store::keep::{commit, load_page, save_page};
+use runs::time::Time;
+use store::dir::Dir;
+use store::keep::Memory;
 use store::root::{pick, turn_pick};
+use store::slot::Slot;
 
-// The time, 0 if none was told; the root word; the root page in force.
+// The time; the root word; the root page in force.
 #[derive(Clone, Copy)]
 pub struct Held {
-    pub time: u64,
+    // 0 if none was told, as in the meaning, where no time is 0
+    pub time: Time,
     pub word: u64,
     pub root: [u64; 40],
 }
 
 // The flow of a slot.
-pub fn open<D: Device>(dev: &mut D, held: &Held, dir: &[u64], slot: usize) -> Result<Flow, Damaged>
-    requires fits { 32768 ≤ D.size dev.old }
-    requires few { D.size dev.old ≤ 1099511627776 }
-    requires long { length dir.now ≡ 98304 }
-    requires within { slot < 1024 }
-    ensures did { Did D.step (open_work (mind_of (D.size dev.old) held.now dir.now) slot) dev.old result dev.new }
-    ensures stays { D.size dev.new ≡ D.size dev.old }
+pub fn open<D: Device>(
+    memory: &mut Memory<D>,
+    held: &Held,
+    dir: &Dir,
+    slot: Slot,
+) -> Result<Flow, Damaged>
+    ensures did { Did D.step (open_work (mind_of (D.size memory.old.dev) held.now dir.now) slot) memory.old.dev result memory.new.dev }
+    ensures stays { D.size memory.new.dev ≡ D.size memory.old.dev }
 {
     let mut page = [0; 128];
-    load_page(dev, &held.root, dir, slot, &mut page);
+    memory.load_page(&held.root, dir, slot, &mut page);
     decode(&page)
 }
 
 // The flow of a slot is saved, and then it counts.
-pub fn shut<D: Device>(dev: &mut D, held: &mut Held, dir: &[u64], slot: usize, flow: &Flow)
-    requires fits { 32768 ≤ D.size dev.old }
-    requires few { D.size dev.old ≤ 1099511627776 }
-    requires long { length dir.now ≡ 98304 }
-    requires within { slot < 1024 }
-    ensures did { Did D.step (shut_work (mind_of (D.size dev.old) held.old dir.now) slot flow.now) dev.old tt dev.new }
+pub fn shut<D: Device>(memory: &mut Memory<D>, held: &mut Held, dir: &Dir, slot: Slot, flow: &Flow)
+    ensures did { Did D.step (shut_work (mind_of (D.size memory.old.dev) held.old dir.now) slot flow.now) memory.old.dev tt memory.new.dev }
     ensures held { held.new ≡ held_as (turn_at 17 slot held.old.root) held.old }
-    ensures stays { D.size dev.new ≡ D.size dev.old }
+    ensures stays { D.size memory.new.dev ≡ D.size memory.old.dev }
 {
-    let mut page = [0; 128];
-    encode(flow, &mut page);
-    let copy = 1 - pick(&held.root, slot);
-    save_page(dev, dir, slot, copy, &page);
+    let copy = pick(&held.root, slot).other();
+    memory.save_page(dir, slot, copy, &encode(flow));
     turn_pick(&mut held.root, slot);
-    commit(dev, held.word, &held.root);
+    memory.commit(held.word, &held.root);
     held.word = 1 - held.word % 2;
 }

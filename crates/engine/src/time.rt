@@ -1,9 +1,9 @@
 // Time is told: each flow that stirs goes on, and one flip makes all of it count.
-ghost use Rattle.std.specs.Prelude.{◌≡◌, ℕ, ◌+◌, ◌-◌, ◌*◌, ◌%◌, ◌<◌, ◌≤◌, Bool, true, false, length};
+ghost use Rattle.std.specs.Prelude.{◌≡◌, ℕ, None, Ok};
 ghost use Rattle.device.specs.Does.{Did, bind, loop_from};
 ghost use Rattle.store.specs.Works.{load_plan};
-ghost use Rattle.engine.specs.Works.{tick_save, tick_plan, tick_flow, tick_turn, tick_work, spoilt as spoiltOf};
-ghost use Rattle.engine.specs.Done.{mind_of, held_as, Done};
+ghost use Rattle.engine.specs.Works.{tick_save, tick_plan, tick_flow, tick_turn, tick_work};
+ghost use Rattle.engine.specs.Done.{mind_of, Done};
 
 use crate::held::{Held, open};
 use calls::types::Reply;
@@ -12,204 +12,135 @@ use pages::event::ticked;
 use pages::flow::Flow;
 use pages::look::stirs;
 use pages::page::encode;
-use store::dir::size_at;
-use store::keep::{commit, load_plan, save_page};
-use store::root::{SLOTS, is_used, pick, turn_pick};
+use plans::eval::Damaged;
+use runs::time::Time;
+use store::dir::Dir;
+use store::keep::Memory;
+use store::root::{is_used, pick, turn_pick};
+use store::slot::{SLOTS, Slot};
 
-// What the flows that have gone on come to: a page was of no flow, some flow has changed, the root page as it is to be.
-#[derive(Clone, Copy)]
-pub struct Ticking {
-    pub bad: bool,
-    pub any: bool,
-    pub page: [u64; 40],
-}
-
-fn spoilt(ticking: Ticking) -> Ticking
-    ensures { result ≡ spoiltOf ticking }
-{
-    let page = ticking.page;
-    Ticking {
-        bad: true,
-        any: ticking.any,
-        page,
-    }
-}
+// What the flows that have gone on come to: the root page as it is to be, if some flow has changed; damaged where a page was of no flow.
+type Changed = Result<Option<[u64; 40]>, Damaged>;
 
 // A flow as it is now is saved where it does not count yet.
 fn tick_save<D: Device>(
-    dev: &mut D,
+    memory: &mut Memory<D>,
     held: &Held,
-    dir: &[u64],
-    slot: usize,
-    ticking: Ticking,
+    dir: &Dir,
+    slot: Slot,
+    changed: Changed,
     flow: &Flow,
-) -> Ticking
-    requires fits { 32768 ≤ D.size dev.old }
-    requires few { D.size dev.old ≤ 1099511627776 }
-    requires long { length dir.now ≡ 98304 }
-    requires within { slot < 1024 }
-    ensures did { Did D.step (tick_save (mind_of (D.size dev.old) held.now dir.now) slot ticking flow.now) dev.old result dev.new }
-    ensures stays { D.size dev.new ≡ D.size dev.old }
+) -> Changed
+    ensures did { Did D.step (tick_save (mind_of (D.size memory.old.dev) held.now dir.now) slot changed flow.now) memory.old.dev result memory.new.dev }
+    ensures stays { D.size memory.new.dev ≡ D.size memory.old.dev }
 {
-    let mut words = [0; 128];
-    encode(flow, &mut words);
-    let copy = 1 - pick(&held.root, slot);
-    save_page(dev, dir, slot, copy, &words);
-    let mut page = ticking.page;
+    let copy = pick(&held.root, slot).other();
+    memory.save_page(dir, slot, copy, &encode(flow));
+    let mut page = changed?.unwrap_or(held.root);
     turn_pick(&mut page, slot);
-    Ticking {
-        bad: ticking.bad,
-        any: true,
-        page,
-    }
+    Ok(Some(page))
 }
 
 // A flow that stirs goes on by its plan.
 fn tick_plan<D: Device>(
-    dev: &mut D,
+    memory: &mut Memory<D>,
     held: &Held,
-    dir: &[u64],
-    plan: &mut [u64],
-    stack: &mut [u64],
-    time: u64,
-    slot: usize,
-    ticking: Ticking,
+    dir: &Dir,
+    plan: &mut [u64; 16384],
+    stack: &mut [u64; 4096],
+    time: Time,
+    slot: Slot,
+    changed: Changed,
     flow: Flow,
-) -> Ticking
-    requires fits { 32768 ≤ D.size dev.old }
-    requires few { D.size dev.old ≤ 1099511627776 }
-    requires long { length dir.now ≡ 98304 }
-    requires within { slot < 1024 }
-    requires roomy { length plan.old ≡ 16384 }
-    requires deep { length stack.old ≡ 4096 }
-    requires clock { time < 4611686018427387904 }
-    ensures did { Did D.step (bind (load_plan (D.size dev.old) dir.now slot) (tick_plan time (mind_of (D.size dev.old) held.now dir.now) slot ticking flow)) dev.old result dev.new }
-    ensures stays { D.size dev.new ≡ D.size dev.old }
+) -> Changed
+    ensures did { Did D.step (bind (load_plan (D.size memory.old.dev) dir.now slot) (tick_plan time (mind_of (D.size memory.old.dev) held.now dir.now) slot changed flow)) memory.old.dev result memory.new.dev }
+    ensures stays { D.size memory.new.dev ≡ D.size memory.old.dev }
 {
-    let size = size_at(dir, slot);
+    let size = dir.size_at(slot);
     let words = &mut plan[0..4 * size];
-    load_plan(dev, dir, slot, words);
-    match ticked(words, flow, time, stack) {
-        Err(_) => spoilt(ticking),
-        Ok(flow) => tick_save(dev, held, dir, slot, ticking, &flow),
-    }
+    memory.load_plan(dir, slot, words);
+    let flow = ticked(words, flow, time, stack)?;
+    tick_save(memory, held, dir, slot, changed, &flow)
 }
 
 fn tick_flow<D: Device>(
-    dev: &mut D,
+    memory: &mut Memory<D>,
     held: &Held,
-    dir: &[u64],
-    plan: &mut [u64],
-    stack: &mut [u64],
-    time: u64,
-    slot: usize,
-    ticking: Ticking,
+    dir: &Dir,
+    plan: &mut [u64; 16384],
+    stack: &mut [u64; 4096],
+    time: Time,
+    slot: Slot,
+    changed: Changed,
     flow: Flow,
-) -> Ticking
-    requires fits { 32768 ≤ D.size dev.old }
-    requires few { D.size dev.old ≤ 1099511627776 }
-    requires long { length dir.now ≡ 98304 }
-    requires within { slot < 1024 }
-    requires roomy { length plan.old ≡ 16384 }
-    requires deep { length stack.old ≡ 4096 }
-    requires clock { time < 4611686018427387904 }
-    ensures did { Did D.step (tick_flow time (mind_of (D.size dev.old) held.now dir.now) slot ticking flow) dev.old result dev.new }
-    ensures stays { D.size dev.new ≡ D.size dev.old }
+) -> Changed
+    ensures did { Did D.step (tick_flow time (mind_of (D.size memory.old.dev) held.now dir.now) slot changed flow) memory.old.dev result memory.new.dev }
+    ensures stays { D.size memory.new.dev ≡ D.size memory.old.dev }
 {
-    if !stirs(&flow, time) {
-        return ticking;
+    if !stirs(&flow, time.ms()) {
+        return changed;
     }
-    tick_plan(dev, held, dir, plan, stack, time, slot, ticking, flow)
+    tick_plan(memory, held, dir, plan, stack, time, slot, changed, flow)
 }
 
+// One more slot, also where a page was of no flow: what is done to the memory depends on the slots alone.
 fn tick_turn<D: Device>(
-    dev: &mut D,
+    memory: &mut Memory<D>,
     held: &Held,
-    dir: &[u64],
-    plan: &mut [u64],
-    stack: &mut [u64],
-    time: u64,
-    slot: usize,
-    ticking: Ticking,
-) -> Ticking
-    requires fits { 32768 ≤ D.size dev.old }
-    requires few { D.size dev.old ≤ 1099511627776 }
-    requires long { length dir.now ≡ 98304 }
-    requires within { slot < 1024 }
-    requires roomy { length plan.old ≡ 16384 }
-    requires deep { length stack.old ≡ 4096 }
-    requires clock { time < 4611686018427387904 }
-    ensures did { Did D.step (tick_turn time (mind_of (D.size dev.old) held.now dir.now) slot ticking) dev.old result dev.new }
-    ensures stays { D.size dev.new ≡ D.size dev.old }
+    dir: &Dir,
+    plan: &mut [u64; 16384],
+    stack: &mut [u64; 4096],
+    time: Time,
+    slot: Slot,
+    changed: Changed,
+) -> Changed
+    ensures did { Did D.step (tick_turn time (mind_of (D.size memory.old.dev) held.now dir.now) slot changed) memory.old.dev result memory.new.dev }
+    ensures stays { D.size memory.new.dev ≡ D.size memory.old.dev }
 {
     if !is_used(&held.root, slot) {
-        return ticking;
+        return changed;
     }
-    match open(dev, held, dir, slot) {
-        Err(_) => spoilt(ticking),
-        Ok(flow) => tick_flow(dev, held, dir, plan, stack, time, slot, ticking, flow),
-    }
+    let flow = open(memory, held, dir, slot)?;
+    tick_flow(memory, held, dir, plan, stack, time, slot, changed, flow)
 }
 
 // All slots.
 fn tick_all<D: Device>(
-    dev: &mut D,
+    memory: &mut Memory<D>,
     held: &Held,
-    dir: &[u64],
-    plan: &mut [u64],
-    stack: &mut [u64],
-    time: u64,
-) -> Ticking
-    requires fits { 32768 ≤ D.size dev.old }
-    requires few { D.size dev.old ≤ 1099511627776 }
-    requires long { length dir.now ≡ 98304 }
-    requires roomy { length plan.old ≡ 16384 }
-    requires deep { length stack.old ≡ 4096 }
-    requires clock { time < 4611686018427387904 }
-    ensures did { Did D.step (loop_from (tick_turn time (mind_of (D.size dev.old) held.now dir.now)) 0 1024 (record { bad = false; any = false; page = held.now.root })) dev.old result dev.new }
-    ensures stays { D.size dev.new ≡ D.size dev.old }
+    dir: &Dir,
+    plan: &mut [u64; 16384],
+    stack: &mut [u64; 4096],
+    time: Time,
+) -> Changed
+    ensures did { Did D.step (loop_from (tick_turn time (mind_of (D.size memory.old.dev) held.now dir.now)) 0 1024 (Ok None)) memory.old.dev result memory.new.dev }
+    ensures stays { D.size memory.new.dev ≡ D.size memory.old.dev }
 {
-    let page = held.root;
-    let mut ticking = Ticking {
-        bad: false,
-        any: false,
-        page,
-    };
-    for slot in 0..SLOTS {
-        ticking = tick_turn(dev, held, dir, plan, stack, time, slot, ticking);
+    let mut changed = Ok(None);
+    for i in 0..SLOTS {
+        changed = tick_turn(memory, held, dir, plan, stack, time, Slot::new(i), changed);
     }
-    ticking
+    changed
 }
 
 // It is this time now.
 pub fn tick<D: Device>(
-    dev: &mut D,
+    memory: &mut Memory<D>,
     held: &mut Held,
-    dir: &[u64],
-    plan: &mut [u64],
-    stack: &mut [u64],
-    time: u64,
-) -> Reply
-    requires fits { 32768 ≤ D.size dev.old }
-    requires few { D.size dev.old ≤ 1099511627776 }
-    requires long { length dir.now ≡ 98304 }
-    requires roomy { length plan.old ≡ 16384 }
-    requires deep { length stack.old ≡ 4096 }
-    requires clock { time < 4611686018427387904 }
-    ensures done { Done D.step (tick_work time (mind_of (D.size dev.old) held.old dir.now)) dev.old result (mind_of (D.size dev.old) held.new dir.now) dev.new }
-    ensures stays { D.size dev.new ≡ D.size dev.old }
+    dir: &Dir,
+    plan: &mut [u64; 16384],
+    stack: &mut [u64; 4096],
+    time: Time,
+) -> Result<Reply, Damaged>
+    ensures done { Done D.step (tick_work time (mind_of (D.size memory.old.dev) held.old dir.now)) memory.old.dev result (mind_of (D.size memory.old.dev) held.new dir.now) memory.new.dev }
+    ensures stays { D.size memory.new.dev ≡ D.size memory.old.dev }
 {
-    let ticking = tick_all(dev, held, dir, plan, stack, time);
-    if ticking.bad {
-        return Reply::Damaged;
-    }
+    let changed = tick_all(memory, held, dir, plan, stack, time)?;
     held.time = time;
-    if !ticking.any {
-        return Reply::Yes;
+    if let Some(page) = changed {
+        memory.commit(held.word, &page);
+        held.word = 1 - held.word % 2;
+        held.root = page;
     }
-    commit(dev, held.word, &ticking.page);
-    held.word = 1 - held.word % 2;
-    let page = ticking.page;
-    held.root = page;
-    Reply::Yes
+    Ok(Reply::Yes)
 }

@@ -1,41 +1,33 @@
-use Rattle.std.proofs.Common.{◌≡◌, ◌∙◌, subst, arith, rules}
+use Rattle.std.proofs.Common.{Ok, refl, ◌∙◌, subst}
+use Rattle.std.proofs.lemmas.Result.{err_from_is_err_and}
 use Rattle.engine.specs.Works.{forget_flow, key_slot}
 use Rattle.engine.specs.Done.{mind_of, Done}
 use Rattle.engine.proofs.Doing.{at_none, at_some, flow_lost, flow_done}
 use Rattle.engine.proofs.look.forget.Goals as goal
 
-pub open-requires : goal.open-requires
-open-requires g c = record { fits = c.requires.fits; few = c.requires.few; long = c.requires.long; within = c.in-Some.ensures.low }
+pub returns-in_default : goal.returns-in_default
+returns-in_default g c =
+    let x = mind_of (g.D.Device.size c.args.memory.now.dev) c.args.held.now c.args.dir.now in
+    record { done = at_none g.D.Device.step x (forget_flow x) (key_slot x c.args.key.now) c.in_default.ensures; stays = refl }
 
-pub forget_flow-requires : goal.forget_flow-requires
-forget_flow-requires g c =
-    let e = c.in-Ok.ensures.stays in
-    record { fits = omega (arith, e, c.requires.fits); few = omega (arith, e, c.requires.few); long = c.requires.long; within = c.in-Some.ensures.low }
+pub returns-in_err-flow : goal.returns-in_err-flow
+returns-in_err-flow g c =
+    let x = mind_of (g.D.Device.size c.args.memory.now.dev) c.args.held.now c.args.dir.now in
+    let q = err_from_is_err_and c.from_residual.result c.from_residual.ensures.1 in
+    rw q.1 (record {
+      done = at_some g.D.Device.step x (forget_flow x) c.in-Some.slot (key_slot x c.args.key.now) _ x c.in-Some.ensures (flow_lost g.D.Device.step x (forget_flow x) c.in-Some.slot _ c.in_err-flow.ensures.did);
+      stays = c.in_err-flow.ensures.stays;
+    })
 
-pub returns-in-None : goal.returns-in-None
-returns-in-None g c =
-    let n = g.D.Device.size c.args.dev.now in
-    let x = mind_of n c.args.held.now c.args.dir.now in
-    record { done = at_none g.D.Device.step x (forget_flow x) (key_slot x c.args.key.now) c.in-None.ensures.is; stays = search rules }
-
-pub returns-in-Err : goal.returns-in-Err
-returns-in-Err g c =
-    let n = g.D.Device.size c.args.dev.now in
-    let x = mind_of n c.args.held.now c.args.dir.now in
-    record {
-      done = at_some g.D.Device.step x (forget_flow x) c.in-Some.slot (key_slot x c.args.key.now) _ x c.in-Some.ensures.is (flow_lost g.D.Device.step x (forget_flow x) c.in-Some.slot _ c.in-Err.ensures.did);
-      stays = c.in-Err.ensures.stays;
-    }
-
-pub returns-in-Ok : goal.returns-in-Ok
-returns-in-Ok g c =
+pub returns : goal.returns
+returns g c =
     let step = g.D.Device.step in
-    let s = g.D.Device.size c.args.dev.now in
-    let e = c.in-Ok.ensures.stays in
+    let s = g.D.Device.size c.args.memory.now.dev in
+    let e = c.in_ok-flow.ensures.stays in
     let x = mind_of s c.args.held.now c.args.dir.now in
     let y = mind_of s c.forget_flow.new.held c.args.dir.now in
-    let d = subst (λ n. Done step (forget_flow (mind_of n c.args.held.now c.args.dir.now) c.in-Some.slot c.in-Ok.flow) c.open.new.dev c.forget_flow.result (mind_of n c.forget_flow.new.held c.args.dir.now) c.forget_flow.new.dev) e c.forget_flow.ensures.done in
+    let d = subst (λ n. Done step (forget_flow (mind_of n c.args.held.now c.args.dir.now) c.in-Some.slot c.in_ok-flow.flow) c.open.new.memory.dev (Ok c.forget_flow.result) (mind_of n c.forget_flow.new.held c.args.dir.now) c.forget_flow.new.memory.dev) e c.forget_flow.ensures.done in
     record {
-      done = at_some step x (forget_flow x) c.in-Some.slot (key_slot x c.args.key.now) _ y c.in-Some.ensures.is (flow_done step x (forget_flow x) c.in-Some.slot c.in-Ok.flow _ y c.in-Ok.ensures.did d);
+      done = at_some step x (forget_flow x) c.in-Some.slot (key_slot x c.args.key.now) _ y c.in-Some.ensures (flow_done step x (forget_flow x) c.in-Some.slot c.in_ok-flow.flow _ y c.in_ok-flow.ensures.did d);
       stays = c.forget_flow.ensures.stays ∙ e;
     }

@@ -1,5 +1,7 @@
-use Rattle.std.proofs.Common.{◌≡◌, cond, Ok, Err, sym, refl, ◌∙◌, subst}
-use Rattle.pages.specs.Events.{worked_on, wrong_on}
+use Rattle.std.proofs.Common.{Ok, sym, ◌∙◌, subst}
+use Rattle.std.proofs.lemmas.Result.{err_from_is_err_and}
+use Rattle.std.specs.Option.{is_some, unwrap_or}
+use Rattle.calls.specs.declared.types.Reply.TheVariants.{Yes}
 use Rattle.device.specs.Does.{Did, bind}
 use Rattle.store.specs.Works.{load_plan}
 use Rattle.engine.specs.Works.{report_plan, shut_work}
@@ -7,23 +9,21 @@ use Rattle.engine.specs.Done.{mind_of, Done}
 use Rattle.engine.proofs.Doing.{report_lost, report_did}
 use Rattle.engine.proofs.look.report_plan.Goals as goal
 
-pub returns-in-Err : goal.returns-in-Err
-returns-in-Err g c =
-    let x = mind_of (g.D.Device.size c.args.dev.now) c.args.held.now c.args.dir.now in
-    let ws = c.load_plan.new.out in
-    let e = subst (λ n. Err c.in-Err.field-0 ≡ cond c.args.end.well (worked_on n ws x.now c.args.end.value c.args.flow) (wrong_on n ws x.now c.args.flow)) c.requires.deep c.in-Err.ensures in
-    record { done = report_lost g.D.Device.step x c.args.end.well c.args.end.value c.args.slot c.args.flow ws c.in-Err.field-0 e c.load_plan.ensures.did; stays = c.load_plan.ensures.stays }
+pub returns-in_err-flow : goal.returns-in_err-flow
+returns-in_err-flow g c =
+    let x = mind_of (g.D.Device.size c.args.memory.now.dev) c.args.held.now c.args.dir.now in
+    let q = err_from_is_err_and c.from_residual.result c.from_residual.ensures.1 in
+    rw q.1 (record { done = report_lost g.D.Device.step x (is_some c.args.end) (unwrap_or c.args.end 0) c.args.slot c.args.flow c.load_plan.new.out _ c.in_err-flow.ensures c.load_plan.ensures.did; stays = c.load_plan.ensures.stays })
 
-pub returns-in-Ok : goal.returns-in-Ok
-returns-in-Ok g c =
+pub returns : goal.returns
+returns g c =
     let step = g.D.Device.step in
-    let n = g.D.Device.size c.args.dev.now in
-    let x = mind_of (g.D.Device.size c.args.dev.now) c.args.held.now c.args.dir.now in
-    let ws = c.load_plan.new.out in
-    let e = subst (λ n. Ok c.in-Ok.flow ≡ cond c.args.end.well (worked_on n ws x.now c.args.end.value c.args.flow) (wrong_on n ws x.now c.args.flow)) c.requires.deep c.in-Ok.ensures in
-    let d = subst (λ n. Did step (shut_work (mind_of n c.args.held.now c.args.dir.now) c.args.slot c.in-Ok.flow) c.load_plan.new.dev tt c.shut.new.dev) c.load_plan.ensures.stays c.shut.ensures.did in
+    let n = g.D.Device.size c.args.memory.now.dev in
+    let x = mind_of (g.D.Device.size c.args.memory.now.dev) c.args.held.now c.args.dir.now in
+    let flow = c.in_ok-flow.flow in
+    let d = subst (λ n. Did step (shut_work (mind_of n c.args.held.now c.args.dir.now) c.args.slot flow) c.load_plan.new.self.dev tt c.shut.new.memory.dev) c.load_plan.ensures.stays c.shut.ensures.did in
     record {
-      done = subst (λ h. Done step (bind (load_plan n c.args.dir.now c.args.slot) (report_plan c.args.end.well c.args.end.value x c.args.slot c.args.flow)) c.args.dev.now _ (mind_of n h c.args.dir.now) c.shut.new.dev) (sym c.shut.ensures.held)
-          (report_did step x c.args.end.well c.args.end.value c.args.slot c.args.flow c.in-Ok.flow ws e c.load_plan.ensures.did d);
+      done = subst (λ h. Done step (bind (load_plan n c.args.dir.now c.args.slot) (report_plan (is_some c.args.end) (unwrap_or c.args.end 0) x c.args.slot c.args.flow)) c.args.memory.now.dev (Ok Yes) (mind_of n h c.args.dir.now) c.shut.new.memory.dev) (sym c.shut.ensures.held)
+          (report_did step x (is_some c.args.end) (unwrap_or c.args.end 0) c.args.slot c.args.flow flow c.load_plan.new.out c.in_ok-flow.ensures c.load_plan.ensures.did d);
       stays = c.shut.ensures.stays ∙ c.load_plan.ensures.stays;
     }

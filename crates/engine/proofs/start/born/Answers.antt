@@ -1,9 +1,8 @@
-use Rattle.std.proofs.Common.{◌≡◌, ◌*◌, length, refl, ap, ◌∙◌, subst}
+use Rattle.std.proofs.Common.{refl, ap, ◌∙◌, subst}
 use Rattle.device.specs.Does.{Did}
 use Rattle.store.specs.Layout.{turn_at}
 use Rattle.store.specs.Works.{save_plan, save_page}
 use Rattle.store.specs.Entry.{bumped}
-use Rattle.store.proofs.Entries.{put_length}
 use Rattle.engine.specs.Done.{mind_of}
 use Rattle.engine.proofs.Launching.{born_all}
 use Rattle.engine.proofs.start.born.Goals as goal
@@ -12,20 +11,19 @@ pub returns : goal.returns
 returns g c =
     let step = g.D.Device.step in
     let size = g.D.Device.size in
-    let n = size c.args.dev.now in
+    let n = size c.args.memory.now.dev in
     let i = c.args.slot in
-    let d = c.put_entry.new.dir in
+    let d = c.put_entry.new.self in
     let es = c.entry_of-entry.result in
     let x = mind_of n c.args.held.now c.args.dir.now in
     let q = bumped (turn_at 1 i c.args.held.now.root) in
     let e1 = c.save_entry.ensures.stays in
     let e2 = c.save_plan.ensures.stays ∙ e1 in
     let e3 = c.save_page.ensures.stays ∙ e2 in
-    let d2 = subst (λ n. Did step (save_plan n d i c.args.plan.now) c.save_entry.new.dev tt c.save_plan.new.dev) e1 c.save_plan.ensures.did in
-    let d3 = subst (λ n. Did step (save_page n d i c.pick-copy.result c.encode.new.out) c.save_plan.new.dev tt c.save_page.new.dev) e2 c.save_page.ensures.did in
+    let d2 = subst (λ n. Did step (save_plan n d i c.args.plan.now) c.save_entry.new.self.dev tt c.save_plan.new.self.dev) e1 c.save_plan.ensures.did in
+    let d3 = subst (λ n. Did step (save_page n d i c.pick.result c.encode.result) c.save_plan.new.self.dev tt c.save_page.new.self.dev) e2 c.save_page.ensures.did in
     record {
-      done = born_all step x i c.pick-copy.result es _ d q c.args.plan.now c.encode.new.out c.args.flow.now _ _ c.pick-copy.ensures.is c.encode.ensures refl
+      done = born_all step x i c.pick.result es _ d q c.args.plan.now c.encode.result c.args.flow.now _ _ c.pick.ensures c.encode.ensures refl
           c.entry_of-entry.ensures c.put_entry.ensures (ap (λ h. mind_of n h d) c.count_in.ensures.held) c.save_entry.ensures.did d2 d3 c.count_in.ensures.did;
       stays = c.count_in.ensures.stays ∙ e3;
-      dir = ap length c.put_entry.ensures ∙ put_length (i * 96) es c.args.dir.now ∙ c.requires.long;
     }

@@ -1,6 +1,6 @@
-use Rattle.std.proofs.Common.{◌≡◌, ◌+◌, ◌-◌, ◌%◌, ◌<◌, sym, ap, ◌∙◌, subst, arith}
+use Rattle.std.proofs.Common.{◌<◌, sym, ap, ◌∙◌, subst, arith}
 use Rattle.device.specs.Does.{Did}
-use Rattle.store.specs.Layout.{next_of, turn_at}
+use Rattle.store.specs.Layout.{next_of}
 use Rattle.store.specs.Works.{flip_to}
 use Rattle.store.specs.Entry.{bumped}
 use Rattle.store.proofs.Turns.{turn_first}
@@ -16,7 +16,7 @@ pub returns : goal.returns
 returns g c =
     let q = c.bump.ensures ∙ ap bumped c.turn_used.ensures in
     record {
-      did = subst (λ p. Did g.D.Device.step (flip_to c.args.held.now.word p) c.args.dev.now tt c.commit.new.dev) q c.commit.ensures.did;
+      did = subst (λ p. Did g.D.Device.step (flip_to c.args.held.now.word p) c.args.memory.now.dev tt c.commit.new.self.dev) q c.commit.ensures.did;
       held = ap (λ p. held_as p c.args.held.now) q;
       stays = c.commit.ensures.stays;
     }

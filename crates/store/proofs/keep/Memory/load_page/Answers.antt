@@ -3,7 +3,7 @@ use Rattle.blocks.specs.Works.{blocks_in}
 use Rattle.store.specs.Layout.{page_blocks}
 use Rattle.store.specs.Works.{load_page}
 use Rattle.store.proofs.Same.{load_same}
-use Rattle.store.proofs.keep.load_page.Goals as goal
+use Rattle.store.proofs.keep.Memory.load_page.Goals as goal
 
 pub returns : goal.returns
 unfolding load_page

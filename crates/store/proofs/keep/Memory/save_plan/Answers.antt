@@ -2,7 +2,7 @@ use Rattle.std.proofs.Common.{refl, ap, ◌∙◌}
 use Rattle.blocks.specs.Works.{blocks_in}
 use Rattle.store.specs.Works.{save_plan}
 use Rattle.store.proofs.Same.{save_same}
-use Rattle.store.proofs.keep.save_plan.Goals as goal
+use Rattle.store.proofs.keep.Memory.save_plan.Goals as goal
 
 pub returns : goal.returns
 unfolding save_plan
