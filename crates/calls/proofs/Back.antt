@@ -2,7 +2,7 @@
 use Rattle.std.proofs.Common.{◌≡◌, ℕ, ◌+◌, ◌*◌, ◌/◌, ◌%◌, ◌<◌, Bool, true, false, List, [], ◌∷◌, ◌++◌, length, drop, Some, None, sym, refl, ap, ◌∙◌, append-nil, arith, length-append}
 use native.Mathlib.Nat.{div-div-eq-div-mul}
 use lib.Seq.{take-append_seam, drop-append_seam}
-use Rattle.calls.specs.Bytes.{two_at, four_at, eight_at, numbers, eights, fours, words_in, kinds_in, two_bytes, four_bytes, eight_bytes, all_eight, all_four}
+use Rattle.calls.specs.Bytes.{two_at, four_at, eight_at, numbers, eights, fours, words_in, kinds_in, two_bytes, four_bytes, eight_bytes, all_of, all_eight, all_four}
 use Rattle.calls.specs.Parts.{front, cut_in, short_in, long_in, many_in}
 use Rattle.calls.specs.Raw.{Raw, Start', Tell', Cancel', Take', Longer', Report', Show', Forget', Time', raw_bytes, raw_in, kind_in, bit, only_key, keyed, start_key, start_plan, start_words, tell_key, tell_name, take_kinds}
 use Rattle.calls.specs.Stands.{Below, StartIn, TellIn, TakeIn, TryIn, ReadsBack}
@@ -51,17 +51,17 @@ many_back size n b r e =
 
 -- words, one behind the other
 pub eights_back : (ws : List ℕ) → Below 18446744073709551616 ws → eights (length ws) (all_eight ws) ≡ ws
-unfolding numbers all_eight Below
+unfolding numbers all_of Below
 eights_back [] h = refl
 eights_back (x ∷ xs) h = ap (λ y. y ∷ eights (length xs) (all_eight xs)) (eight_back x (all_eight xs) h.0) ∙ ap (λ ys. x ∷ ys) (eights_back xs h.1)
 
 pub fours_back : (ws : List ℕ) → Below 4294967296 ws → fours (length ws) (all_four ws) ≡ ws
-unfolding numbers all_four Below
+unfolding numbers all_of Below
 fours_back [] h = refl
 fours_back (x ∷ xs) h = ap (λ y. y ∷ fours (length xs) (all_four xs)) (four_back x (all_four xs) h.0) ∙ ap (λ ys. x ∷ ys) (fours_back xs h.1)
 
 pub length_all_four : (xs : List ℕ) → length (all_four xs) ≡ 4 * length xs
-unfolding all_four
+unfolding all_of
 length_all_four [] = refl
 length_all_four (x ∷ xs) = let h = length_all_four xs in omega arith
 

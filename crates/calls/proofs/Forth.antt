@@ -1,7 +1,7 @@
 -- What is read was written so.
 use Rattle.std.proofs.Common.{◌≡◌, ℕ, zero, suc, ◌+◌, ◌*◌, ◌/◌, ◌%◌, ◌<◌, ◌≤◌, Bool, true, false, cond, ◌&&◌, eqb, leb, List, [], ◌∷◌, ◌++◌, length, get_or, drop, Some, None, Option, sym, refl, ap, ◌∙◌, subst, append-nil, arith, length-drop, take-append-drop, length-take-le, drop-cons, drop-drop, eqb-true, leb-true}
 use Rattle.std.proofs.lemmas.Bool.{and_parts}
-use Rattle.calls.specs.Bytes.{two_at, four_at, eight_at, numbers, eights, fours, words_in, kinds_in, two_bytes, four_bytes, eight_bytes, all_eight, all_four}
+use Rattle.calls.specs.Bytes.{two_at, four_at, eight_at, numbers, eights, fours, words_in, kinds_in, two_bytes, four_bytes, eight_bytes, all_of, all_eight, all_four}
 use Rattle.calls.specs.Parts.{Front, front, cut_in, short_in, long_in, many_in}
 use Rattle.calls.specs.Raw.{Raw, Start', Tell', Cancel', Take', Longer', Report', Show', Forget', Time', raw_bytes, kind_in, bit, only_key, keyed, start_key, start_plan, start_words, tell_key, tell_name, take_kinds, longer_in, report_in, time_in}
 use Rattle.calls.specs.Stands.{Below, ReadsOnly}
@@ -109,14 +109,14 @@ eight_front f l h =
     ∙ four_front f (omega arith) h)))
 
 pub eights_forth : (n : ℕ) (f : List ℕ) → length f ≡ 8 * n → Below 256 f → all_eight (eights n f) ≡ f
-unfolding numbers all_eight
+unfolding numbers all_of
 eights_forth zero f e h = sym (none_left f (omega arith))
 eights_forth (suc n) f e h =
     let ld = length-drop 8 f in
     ap (λ r. eight_bytes (eight_at f 0) ++ r) (eights_forth n (drop 8 f) (omega arith) (below_drop 8 f h)) ∙ eight_front f (omega arith) h
 
 pub fours_forth : (n : ℕ) (f : List ℕ) → length f ≡ 4 * n → Below 256 f → all_four (fours n f) ≡ f
-unfolding numbers all_four
+unfolding numbers all_of
 fours_forth zero f e h = sym (none_left f (omega arith))
 fours_forth (suc n) f e h =
     let ld = length-drop 4 f in

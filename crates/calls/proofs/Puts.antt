@@ -1,5 +1,5 @@
 -- Writes, one behind the other.
-use Rattle.std.proofs.Common.{◌≡◌, ℕ, suc, ◌+◌, ◌*◌, ◌/◌, ◌%◌, ◌<◌, ◌≤◌, true, false, List, [], ◌∷◌, ◌++◌, length, get_or, take, drop, set, Some, None, sym, refl, ap, ◌∙◌, append_assoc, add-zero, zero-add, add-one, arith, length-take-le, take-suc, le-leb}
+use Rattle.std.proofs.Common.{◌≡◌, ℕ, suc, ◌+◌, ◌*◌, ◌/◌, ◌%◌, ◌<◌, ◌≤◌, true, false, List, [], ◌∷◌, ◌++◌, length, get_or, take, drop, set, Some, None, sym, refl, ap, ◌∙◌, append_assoc, append-nil, add-zero, zero-add, add-one, arith, length-take-le, take-suc, le-leb}
 use Rattle.std.proofs.lemmas.List.{drop-drop}
 use lib.Seq.{sets, sets-eq}
 use borrow.Rule.Slice.PartMut.{put_mid}
@@ -7,7 +7,7 @@ use Rattle.std.specs.Int.{to_be_bytes}
 use mir.Syntax.{w32, w64}
 use borrow.Author.Tests.{lt-leb}
 use Rattle.std.proofs.lemmas.Bool.{cond-true, cond-false}
-use Rattle.calls.specs.Bytes.{two_bytes, four_bytes, eight_bytes, all_eight}
+use Rattle.calls.specs.Bytes.{two_bytes, four_bytes, eight_bytes, all_of, all_eight}
 use Rattle.calls.specs.Replies.{words_of, bytes_of, fitting, Wrote}
 use Rattle.calls.specs.Lines.{framed}
 use Rattle.calls.specs.declared.types.Job.{Job as JobHeld}
@@ -43,31 +43,30 @@ sets_append (x ∷ a) b l i =
 pub behind : (a b l m n : List ℕ) (i j : ℕ) → m ≡ sets l i a → j ≡ i + length a → n ≡ sets m j b → n ≡ sets l i (a ++ b)
 behind a b l m n i j p q r = r ∙ (ap (λ x. sets x j b) p ∙ (ap (λ k. sets (sets l i a) k b) q ∙ sets_append a b l i))
 
-pub all_eight_append : (xs ys : List ℕ) → all_eight (xs ++ ys) ≡ all_eight xs ++ all_eight ys
-unfolding all_eight
-all_eight_append [] ys = refl
-all_eight_append (x ∷ xs) ys = ap (λ r. eight_bytes x ++ r) (all_eight_append xs ys) ∙ sym (append_assoc (eight_bytes x) (all_eight xs) (all_eight ys))
+pub all_append : {A : Type 0} (f : A → List ℕ) (xs ys : List A) → all_of f (xs ++ ys) ≡ all_of f xs ++ all_of f ys
+unfolding all_of
+all_append f [] ys = refl
+all_append f (x ∷ xs) ys = ap (λ r. f x ++ r) (all_append f xs ys) ∙ sym (append_assoc (f x) (all_of f xs) (all_of f ys))
 
 pub length_all_eight : (xs : List ℕ) → length (all_eight xs) ≡ 8 * length xs
-unfolding all_eight
+unfolding all_of
 length_all_eight [] = refl
 length_all_eight (x ∷ xs) = let h = length_all_eight xs in omega arith
 
-pub one_eight : (x : ℕ) → all_eight (x ∷ []) ≡ eight_bytes x
-unfolding all_eight
-one_eight x = refl
+pub all_one : {A : Type 0} (f : A → List ℕ) (x : A) → all_of f (x ∷ []) ≡ f x
+unfolding all_of
+all_one f x = append-nil (f x)
 
-pub none_eight : all_eight [] ≡ []
-unfolding all_eight
-none_eight = refl
+pub all_none : {A : Type 0} (f : A → List ℕ) → all_of f [] ≡ []
+unfolding all_of
+all_none f = refl
 
--- one word more
 pub word_more : (old mid new ws : List ℕ) (at i : ℕ) → i < length ws → mid ≡ sets old at (all_eight (take i ws)) → new ≡ sets mid (at + 8 * i) (eight_bytes (get_or ws i 0)) → new ≡ sets old at (all_eight (take (i + 1) ws))
 word_more old mid new ws at i h p q =
     let e : take (i + 1) ws ≡ take i ws ++ (get_or ws i 0 ∷ []) = ap (λ k. take k ws) (add-one i) ∙ take-suc ws i 0 h in
     let n : length (take i ws) ≡ i = length-take-le i ws (omega arith) in
     let len = length_all_eight (take i ws) in
-    let w : all_eight (take (i + 1) ws) ≡ all_eight (take i ws) ++ eight_bytes (get_or ws i 0) = ap all_eight e ∙ (all_eight_append (take i ws) (get_or ws i 0 ∷ []) ∙ ap (λ r. all_eight (take i ws) ++ r) (one_eight (get_or ws i 0))) in
+    let w : all_eight (take (i + 1) ws) ≡ all_eight (take i ws) ++ eight_bytes (get_or ws i 0) = ap all_eight e ∙ (all_append eight_bytes (take i ws) (get_or ws i 0 ∷ []) ∙ ap (λ r. all_eight (take i ws) ++ r) (all_one eight_bytes (get_or ws i 0))) in
     let j : at + 8 * i ≡ at + length (all_eight (take i ws)) = omega arith in
     behind (all_eight (take i ws)) (eight_bytes (get_or ws i 0)) old mid new at (at + 8 * i) p j q ∙ ap (sets old at) (sym w)
 

@@ -31,10 +31,13 @@ four_bytes n = n / 16777216 % 256 ∷ n / 65536 % 256 ∷ n / 256 % 256 ∷ n % 
 abbrev pub eight_bytes : ℕ → List ℕ
 eight_bytes n = four_bytes (n / 4294967296) ++ four_bytes (n % 4294967296)
 
-unfoldable pub all_eight : List ℕ → List ℕ
-all_eight [] = []
-all_eight (x ∷ xs) = eight_bytes x ++ all_eight xs
+-- each written, one behind the other
+unfoldable pub all_of : {A : Type 0} → (A → List ℕ) → List A → List ℕ
+all_of f [] = []
+all_of f (x ∷ xs) = f x ++ all_of f xs
 
-unfoldable pub all_four : List ℕ → List ℕ
-all_four [] = []
-all_four (x ∷ xs) = four_bytes x ++ all_four xs
+abbrev pub all_eight : List ℕ → List ℕ
+all_eight = all_of eight_bytes
+
+abbrev pub all_four : List ℕ → List ℕ
+all_four = all_of four_bytes

@@ -36,6 +36,9 @@ pub trait Wide {
         requires { place + WIDTH ≤ length bytes.now }
         ensures { number result ≡ at bytes.now place };
 
+    fn widen(self) -> u64
+        ensures { result ≡ number self };
+
     ghost some: { 0 < WIDTH };
 
     // a drop in front of it leaves it as it is
@@ -58,6 +61,10 @@ impl Wide for u64 {
     fn at(bytes: &[u8], place: usize) -> u64 {
         eight_at(bytes, place)
     }
+
+    fn widen(self) -> u64 {
+        self
+    }
 }
 
 impl Wide for u32 {
@@ -75,6 +82,10 @@ impl Wide for u32 {
 
     fn at(bytes: &[u8], place: usize) -> u32 {
         four_at(bytes, place)
+    }
+
+    fn widen(self) -> u64 {
+        u64::from(self)
     }
 }
 

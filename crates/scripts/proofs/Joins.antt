@@ -1,8 +1,8 @@
 -- Bytes put behind others.
 use Rattle.std.proofs.Common.{◌≡◌, ℕ, ◌+◌, ◌<◌, List, [], ◌∷◌, ◌++◌, length, get_or, take, sym, refl, ap, ◌∙◌, append_assoc, append-nil}
 use Rattle.std.proofs.lemmas.List.{take_more}
-use Rattle.calls.specs.Bytes.{four_bytes, eight_bytes, all_eight, all_four}
-use Rattle.calls.proofs.Puts.{all_eight_append, one_eight, none_eight}
+use Rattle.calls.specs.Bytes.{all_of}
+use Rattle.calls.proofs.Puts.{all_append, all_one, all_none}
 
 pub joins : (a p q : List ℕ) {b c : List ℕ} → b ≡ a ++ p → c ≡ b ++ q → c ≡ a ++ (p ++ q)
 joins a p q e f = f ∙ (ap (λ x. x ++ q) e ∙ append_assoc a p q)
@@ -10,29 +10,9 @@ joins a p q e f = f ∙ (ap (λ x. x ++ q) e ∙ append_assoc a p q)
 pub first : {a c q : List ℕ} → a ≡ [] → c ≡ a ++ q → c ≡ q
 first {q = q} e f = f ∙ ap (λ x. x ++ q) e
 
-all_four_append : (xs ys : List ℕ) → all_four (xs ++ ys) ≡ all_four xs ++ all_four ys
-unfolding all_four
-all_four_append [] ys = refl
-all_four_append (x ∷ xs) ys = ap (λ r. four_bytes x ++ r) (all_four_append xs ys) ∙ sym (append_assoc (four_bytes x) (all_four xs) (all_four ys))
+pub none_more : {A : Type 0} (f : A → List ℕ) (a : List ℕ) → a ≡ a ++ all_of f []
+none_more f a = sym (ap (λ r. a ++ r) (all_none f) ∙ append-nil a)
 
-one_four : (x : ℕ) → all_four (x ∷ []) ≡ four_bytes x
-unfolding all_four
-one_four x = refl
-
-none_four : all_four [] ≡ []
-unfolding all_four
-none_four = refl
-
-pub no_eight : (a : List ℕ) → a ≡ a ++ all_eight []
-no_eight a = sym (ap (λ r. a ++ r) none_eight ∙ append-nil a)
-
-pub no_four : (a : List ℕ) → a ≡ a ++ all_four []
-no_four a = sym (ap (λ r. a ++ r) none_four ∙ append-nil a)
-
-pub more_eight : (a b c ws : List ℕ) (i : ℕ) → i < length ws → b ≡ a ++ all_eight (take i ws) → c ≡ b ++ eight_bytes (get_or ws i 0) → c ≡ a ++ all_eight (take (i + 1) ws)
-more_eight a b c ws i h e f =
-    joins a (all_eight (take i ws)) (eight_bytes (get_or ws i 0)) e f ∙ ap (λ r. a ++ r) (sym (ap all_eight (take_more ws i 0 h) ∙ (all_eight_append (take i ws) (get_or ws i 0 ∷ []) ∙ ap (λ r. all_eight (take i ws) ++ r) (one_eight (get_or ws i 0)))))
-
-pub more_four : (a b c ws : List ℕ) (i : ℕ) → i < length ws → b ≡ a ++ all_four (take i ws) → c ≡ b ++ four_bytes (get_or ws i 0) → c ≡ a ++ all_four (take (i + 1) ws)
-more_four a b c ws i h e f =
-    joins a (all_four (take i ws)) (four_bytes (get_or ws i 0)) e f ∙ ap (λ r. a ++ r) (sym (ap all_four (take_more ws i 0 h) ∙ (all_four_append (take i ws) (get_or ws i 0 ∷ []) ∙ ap (λ r. all_four (take i ws) ++ r) (one_four (get_or ws i 0)))))
+pub one_more : {A : Type 0} (f : A → List ℕ) (a b c : List ℕ) (ws : List A) (i : ℕ) (d : A) → i < length ws → b ≡ a ++ all_of f (take i ws) → c ≡ b ++ f (get_or ws i d) → c ≡ a ++ all_of f (take (i + 1) ws)
+one_more f a b c ws i d h e g =
+    joins a (all_of f (take i ws)) (f (get_or ws i d)) e g ∙ ap (λ r. a ++ r) (sym (ap (all_of f) (take_more ws i d h) ∙ (all_append f (take i ws) (get_or ws i d ∷ []) ∙ ap (λ r. all_of f (take i ws) ++ r) (all_one f (get_or ws i d)))))

@@ -1,2 +1,1 @@
-mod Hexes
 mod Joins

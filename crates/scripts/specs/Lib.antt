@@ -1,3 +1,2 @@
 pub mod Asks
-pub mod Hex
 pub mod Draws

@@ -1,7 +1,7 @@
 // Calls into bytes.
-ghost use Rattle.std.specs.Prelude.{◌≡◌, ◌<◌, true, ◌∷◌, ◌++◌, length, IfOk, if◌then◌else◌, Some, None, vec_items, OnOk, nat_lt};
+ghost use Rattle.std.specs.Prelude.{◌≡◌, ℕ, ◌<◌, true, List, ◌∷◌, ◌++◌, length, IfOk, if◌then◌else◌, Some, None, vec_items, OnOk, nat_lt};
 ghost use Rattle.std.specs.Option.{option_map};
-ghost use Rattle.calls.specs.Bytes.{two_bytes, four_bytes, eight_bytes, all_eight, all_four};
+ghost use Rattle.calls.specs.Bytes.{two_bytes, four_bytes, eight_bytes, all_of};
 ghost use Rattle.calls.specs.Raw.{Start', Tell', Take', Longer', Report', Time', raw_bytes, short_bytes, long_bytes};
 ghost use Rattle.calls.specs.Lines.{framed as framing};
 ghost use Rattle.scripts.specs.Asks.{raw_of, fits as fitting, bytes_of, line_bytes};
@@ -10,24 +10,36 @@ use crate::lines::{Asked, Line};
 use calls::types::{Attempt, FlowId, Step};
 use std::alloc::{AllocError, Global};
 
-fn put_two(out: &mut Vec<u8>, value: u16) -> Result<(), AllocError>
-    ensures { OnOk result (out.new.items ≡ out.old.items ++ two_bytes value) }
-{
-    out.extend_from_slice(&value.to_be_bytes())
+// A number whose bytes are put behind others, the high byte first.
+pub trait Written {
+    ghost bytes: { Self → List ℕ };
+
+    fn put(self, out: &mut Vec<u8>) -> Result<(), AllocError>
+        ensures { OnOk result (out.new.items ≡ out.old.items ++ bytes self) };
 }
 
-fn put_four(out: &mut Vec<u8>, value: u32) -> Result<(), AllocError>
-    ensures { OnOk result (out.new.items ≡ out.old.items ++ four_bytes value) }
-{
-    out.extend_from_slice(&value.to_be_bytes())
+impl Written for u16 {
+    ghost bytes = { two_bytes };
+
+    fn put(self, out: &mut Vec<u8>) -> Result<(), AllocError> {
+        out.extend_from_slice(&self.to_be_bytes())
+    }
 }
 
-fn put_eight(out: &mut Vec<u8>, value: u64) -> Result<(), AllocError>
-    ensures { OnOk result (out.new.items ≡ out.old.items ++ eight_bytes value) }
-{
-    put_four(out, (value / 4294967296) as u32)?;
-    put_four(out, (value % 4294967296) as u32)?;
-    Ok(())
+impl Written for u32 {
+    ghost bytes = { four_bytes };
+
+    fn put(self, out: &mut Vec<u8>) -> Result<(), AllocError> {
+        out.extend_from_slice(&self.to_be_bytes())
+    }
+}
+
+impl Written for u64 {
+    ghost bytes = { eight_bytes };
+
+    fn put(self, out: &mut Vec<u8>) -> Result<(), AllocError> {
+        out.extend_from_slice(&self.to_be_bytes())
+    }
 }
 
 // A length of one byte, and the bytes.
@@ -45,25 +57,17 @@ fn put_long(out: &mut Vec<u8>, bytes: &[u8]) -> Result<(), AllocError>
     requires { length bytes.now < 4294967296 }
     ensures { OnOk result (out.new.items ≡ out.old.items ++ long_bytes bytes.now) }
 {
-    put_four(out, bytes.len() as u32)?;
+    (bytes.len() as u32).put(out)?;
     out.extend_from_slice(bytes)?;
     Ok(())
 }
 
-fn put_words(out: &mut Vec<u8>, words: &[u64]) -> Result<(), AllocError>
-    ensures { OnOk result (out.new.items ≡ out.old.items ++ all_eight words.now) }
+// All of them, one behind the other.
+fn put_all<T: Written + Copy>(out: &mut Vec<u8>, values: &[T]) -> Result<(), AllocError>
+    ensures { OnOk result (out.new.items ≡ out.old.items ++ all_of T.bytes values.now) }
 {
-    for i in 0..words.len() {
-        put_eight(out, words[i])?;
-    }
-    Ok(())
-}
-
-fn put_kinds(out: &mut Vec<u8>, kinds: &[u32]) -> Result<(), AllocError>
-    ensures { OnOk result (out.new.items ≡ out.old.items ++ all_four kinds.now) }
-{
-    for i in 0..kinds.len() {
-        put_four(out, kinds[i])?;
+    for value in values {
+        value.put(out)?;
     }
     Ok(())
 }
@@ -79,7 +83,7 @@ fn start(heap: Global, key: &[u8], plan: &[u8], words: &[u64]) -> Result<Vec<u8>
     put_short(&mut out, key)?;
     put_long(&mut out, plan)?;
     out.push(words.len() as u8)?;
-    put_words(&mut out, words)?;
+    put_all(&mut out, words)?;
     Ok(out)
 }
 
@@ -92,7 +96,7 @@ fn tell(heap: Global, key: &[u8], name: &[u8], value: u64) -> Result<Vec<u8>, Al
     out.push(2)?;
     put_short(&mut out, key)?;
     put_short(&mut out, name)?;
-    put_eight(&mut out, value)?;
+    value.put(&mut out)?;
     Ok(out)
 }
 
@@ -114,8 +118,8 @@ fn take(heap: Global, kinds: &[u32], ms: u32) -> Result<Vec<u8>, AllocError>
     let mut out = Vec::new(heap);
     out.push(4)?;
     out.push(kinds.len() as u8)?;
-    put_kinds(&mut out, kinds)?;
-    put_four(&mut out, ms)?;
+    put_all(&mut out, kinds)?;
+    ms.put(&mut out)?;
     Ok(out)
 }
 
@@ -130,10 +134,10 @@ fn longer(
 {
     let mut out = Vec::new(heap);
     out.push(5)?;
-    put_eight(&mut out, flow.0)?;
-    put_eight(&mut out, step.0)?;
-    put_two(&mut out, attempt.0)?;
-    put_four(&mut out, ms)?;
+    flow.0.put(&mut out)?;
+    step.0.put(&mut out)?;
+    attempt.0.put(&mut out)?;
+    ms.put(&mut out)?;
     Ok(out)
 }
 
@@ -149,11 +153,11 @@ fn report(
 {
     let mut out = Vec::new(heap);
     out.push(6)?;
-    put_eight(&mut out, flow.0)?;
-    put_eight(&mut out, step.0)?;
-    put_two(&mut out, attempt.0)?;
+    flow.0.put(&mut out)?;
+    step.0.put(&mut out)?;
+    attempt.0.put(&mut out)?;
     out.push(u8::from(well))?;
-    put_eight(&mut out, value)?;
+    value.put(&mut out)?;
     Ok(out)
 }
 
@@ -162,7 +166,7 @@ fn time(heap: Global, ms: u64) -> Result<Vec<u8>, AllocError>
 {
     let mut out = Vec::new(heap);
     out.push(9)?;
-    put_eight(&mut out, ms)?;
+    ms.put(&mut out)?;
     Ok(out)
 }
 
@@ -240,8 +244,8 @@ pub fn framed(heap: Global, tag: u32, bytes: &[u8]) -> Result<Option<Vec<u8>>, A
         return Ok(None);
     }
     let mut out = Vec::new(heap);
-    put_four(&mut out, (bytes.len() + 4) as u32)?;
-    put_four(&mut out, tag)?;
+    ((bytes.len() + 4) as u32).put(&mut out)?;
+    tag.put(&mut out)?;
     out.extend_from_slice(bytes)?;
     Ok(Some(out))
 }

@@ -3,7 +3,6 @@
 
 pub mod bytes;
 pub mod draws;
-pub mod hex;
 pub mod lines;
 pub mod number;
 pub mod read;

@@ -26,10 +26,7 @@ fn decimal(word: &[u8]) -> Option<u64> {
 pub fn number(word: Option<&[u8]>, most: u64) -> Result<u64, BadLine>
     ensures { elim result [ Ok n ↦ n ≤ most | Err e ↦ Unit {0} ] }
 {
-    let Some(word) = word else {
-        return Err(BadLine::Number { most });
-    };
-    match decimal(word) {
+    match word.and_then(decimal) {
         Some(value) if value <= most => Ok(value),
         _ => Err(BadLine::Number { most }),
     }

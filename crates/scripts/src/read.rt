@@ -2,12 +2,12 @@
 ghost use Rattle.std.specs.Prelude.{◌<◌, IfSome, IfOk, vec_len};
 ghost use Rattle.scripts.specs.Asks.{Sayable};
 
-use crate::hex::from_hex;
 use crate::lines::{Asked, BadLine, Line, MOST};
 use crate::number::number;
 use crate::words::Words;
 use calls::types::{Attempt, FlowId, Step};
 use std::alloc::Global;
+use wire::hex::from_hex;
 
 // The word that begins a line.
 #[derive(Clone, Copy)]
@@ -53,9 +53,7 @@ fn command_of(word: &[u8]) -> Result<Command, BadLine> {
 fn key_of(heap: Global, words: &mut Words<'_>) -> Result<Vec<u8>, BadLine>
     ensures { IfOk result (λ v. vec_len v < 256) }
 {
-    let Some(word) = words.next() else {
-        return Err(BadLine::Key);
-    };
+    let word = words.next().ok_or(BadLine::Key)?;
     if word.len() > MOST {
         return Err(BadLine::Key);
     }
@@ -83,38 +81,59 @@ fn attempt_of(words: &mut Words<'_>) -> Result<Attempt, BadLine> {
     Ok(Attempt(number(words.next(), 65535)? as u16))
 }
 
-// The words of a flow, up to the colon.
-fn words_of(heap: Global, words: &mut Words<'_>) -> Result<Vec<u64>, BadLine>
+// What a list of numbers ends with, and what is wrong where it doesn't or where it is too long.
+struct End {
+    word: &'static [u8],
+    missing: BadLine,
+    too_many: BadLine,
+}
+
+// Behind the words of a flow.
+const PLAN: End = End {
+    word: b":",
+    missing: BadLine::Colon,
+    too_many: BadLine::Words,
+};
+
+// Behind kinds.
+const FOR: End = End {
+    word: b"for",
+    missing: BadLine::For,
+    too_many: BadLine::Kinds,
+};
+
+// Numbers, up to the word that ends them.
+fn listed<T: Drop, F: Fn(&[u8]) -> Result<T, BadLine>>(
+    heap: Global,
+    words: &mut Words<'_>,
+    end: &End,
+    number_in: F,
+) -> Result<Vec<T>, BadLine>
     ensures { IfOk result (λ v. vec_len v < 256) }
 {
     let mut found = Vec::new(heap);
     for _i in 0..MOST + 1 {
-        let Some(word) = words.next() else {
-            return Err(BadLine::Colon);
-        };
-        if matches!(word, b":") {
+        let word = words.next().ok_or(end.missing)?;
+        if word == end.word {
             return Ok(found);
         }
-        found.push(number(Some(word), u64::MAX)?)?;
+        found.push(number_in(word)?)?;
     }
-    Err(BadLine::Words)
+    Err(end.too_many)
 }
 
-// Kinds, up to the word for.
+fn words_of(heap: Global, words: &mut Words<'_>) -> Result<Vec<u64>, BadLine>
+    ensures { IfOk result (λ v. vec_len v < 256) }
+{
+    listed(heap, words, &PLAN, |word| number(Some(word), u64::MAX))
+}
+
 fn kinds_of(heap: Global, words: &mut Words<'_>) -> Result<Vec<u32>, BadLine>
     ensures { IfOk result (λ v. vec_len v < 256) }
 {
-    let mut kinds = Vec::new(heap);
-    for _i in 0..MOST + 1 {
-        let Some(word) = words.next() else {
-            return Err(BadLine::For);
-        };
-        if matches!(word, b"for") {
-            return Ok(kinds);
-        }
-        kinds.push(number(Some(word), 4294967295)? as u32)?;
-    }
-    Err(BadLine::Kinds)
+    listed(heap, words, &FOR, |word| {
+        Ok(number(Some(word), 4294967295)? as u32)
+    })
 }
 
 fn start(heap: Global, words: &mut Words<'_>) -> Result<Line, BadLine>
@@ -143,13 +162,6 @@ fn tell(heap: Global, words: &mut Words<'_>) -> Result<Line, BadLine>
     Ok(Line::Call(Asked::Tell { key, name, value }))
 }
 
-fn cancel(heap: Global, words: &mut Words<'_>) -> Result<Line, BadLine>
-    ensures { IfOk result Sayable }
-{
-    let key = key_of(heap, words)?;
-    Ok(Line::Call(Asked::Cancel { key }))
-}
-
 fn take(heap: Global, words: &mut Words<'_>) -> Result<Line, BadLine>
     ensures { IfOk result Sayable }
 {
@@ -175,12 +187,9 @@ fn longer(words: &mut Words<'_>) -> Result<Line, BadLine>
 
 // The value of a task that was done well; None for one that was done badly.
 fn outcome(words: &mut Words<'_>) -> Result<Option<u64>, BadLine> {
-    let Some(word) = words.next() else {
-        return Err(BadLine::Outcome);
-    };
-    match word {
-        b"well" => Ok(Some(word_of(words)?)),
-        b"bad" => Ok(None),
+    match words.next() {
+        Some(b"well") => Ok(Some(word_of(words)?)),
+        Some(b"bad") => Ok(None),
         _ => Err(BadLine::Outcome),
     }
 }
@@ -201,20 +210,6 @@ fn report(words: &mut Words<'_>) -> Result<Line, BadLine>
     }))
 }
 
-fn show(heap: Global, words: &mut Words<'_>) -> Result<Line, BadLine>
-    ensures { IfOk result Sayable }
-{
-    let key = key_of(heap, words)?;
-    Ok(Line::Call(Asked::Show { key }))
-}
-
-fn forget(heap: Global, words: &mut Words<'_>) -> Result<Line, BadLine>
-    ensures { IfOk result Sayable }
-{
-    let key = key_of(heap, words)?;
-    Ok(Line::Call(Asked::Forget { key }))
-}
-
 fn time(words: &mut Words<'_>) -> Result<Line, BadLine>
     ensures { IfOk result Sayable }
 {
@@ -225,13 +220,9 @@ fn time(words: &mut Words<'_>) -> Result<Line, BadLine>
 fn line_in(heap: Global, words: &mut Words<'_>) -> Result<Line, BadLine>
     ensures { IfOk result Sayable }
 {
-    let Some(word) = words.next() else {
-        return Err(BadLine::Hex);
-    };
-    match from_hex(heap, word)? {
-        Some(bytes) => Ok(Line::In(bytes)),
-        None => Err(BadLine::Hex),
-    }
+    let word = words.next().ok_or(BadLine::Hex)?;
+    let bytes = from_hex(heap, word)?.ok_or(BadLine::Hex)?;
+    Ok(Line::In(bytes))
 }
 
 fn fail(words: &mut Words<'_>) -> Result<Line, BadLine>
@@ -272,10 +263,7 @@ fn work(heap: Global, words: &mut Words<'_>) -> Result<Line, BadLine>
 }
 
 fn next_is(words: &mut Words<'_>, expected: &[u8]) -> bool {
-    match words.next() {
-        Some(word) => word == expected,
-        None => false,
-    }
+    words.next() == Some(expected)
 }
 
 fn line_of(heap: Global, command: Command, words: &mut Words<'_>) -> Result<Line, BadLine>
@@ -286,12 +274,21 @@ fn line_of(heap: Global, command: Command, words: &mut Words<'_>) -> Result<Line
         Command::Time => time(words),
         Command::Start => start(heap, words),
         Command::Tell => tell(heap, words),
-        Command::Cancel => cancel(heap, words),
+        Command::Cancel => {
+            let key = key_of(heap, words)?;
+            Ok(Line::Call(Asked::Cancel { key }))
+        }
         Command::Take => take(heap, words),
         Command::Longer => longer(words),
         Command::Report => report(words),
-        Command::Show => show(heap, words),
-        Command::Forget => forget(heap, words),
+        Command::Show => {
+            let key = key_of(heap, words)?;
+            Ok(Line::Call(Asked::Show { key }))
+        }
+        Command::Forget => {
+            let key = key_of(heap, words)?;
+            Ok(Line::Call(Asked::Forget { key }))
+        }
         Command::In => line_in(heap, words),
         Command::Fail => fail(words),
         Command::Table => table(heap, words),

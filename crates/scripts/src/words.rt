@@ -2,56 +2,42 @@
 ghost use Rattle.std.specs.Prelude.{◌≤◌, length};
 
 pub fn is_blank(b: u8) -> bool {
-    b == b' ' || b == b'\t' || b == b'\r' || b == b'\n'
+    matches!(b, b' ' | b'\t' | b'\r' | b'\n')
 }
 
 // How many blanks are at the front.
 fn blanks(text: &[u8]) -> usize
     ensures { result ≤ length text.now }
 {
-    for i in 0..text.len() {
-        if !is_blank(text[i]) {
-            return i;
-        }
-    }
-    text.len()
+    text.iter()
+        .position(|b| !is_blank(*b))
+        .unwrap_or(text.len())
 }
 
 // How many bytes stand before the first blank.
 fn letters(text: &[u8]) -> usize
     ensures { result ≤ length text.now }
 {
-    for i in 0..text.len() {
-        if is_blank(text[i]) {
-            return i;
-        }
-    }
-    text.len()
+    text.iter()
+        .position(|b| is_blank(*b))
+        .unwrap_or(text.len())
 }
 
 // How many bytes there are up to the last that is no blank.
 fn trimmed(text: &[u8]) -> usize
     ensures { result ≤ length text.now }
 {
-    let mut end = 0;
-    for i in 0..text.len() {
-        if !is_blank(text[i]) {
-            end = i + 1;
-        }
+    match text.iter().rposition(|b| !is_blank(*b)) {
+        Some(last) => last + 1,
+        None => 0,
     }
-    end
 }
 
 // How many bytes stand before a remark.
 fn said(text: &[u8]) -> usize
     ensures { result ≤ length text.now }
 {
-    for i in 0..text.len() {
-        if text[i] == b'#' {
-            return i;
-        }
-    }
-    text.len()
+    text.iter().position(|b| *b == b'#').unwrap_or(text.len())
 }
 
 // What is left of a line.

@@ -4,8 +4,8 @@ use Rattle.plans.specs.Plan.{Name}
 use Rattle.plans.specs.declared.eval.Damaged.{Damaged}
 use Rattle.flows.specs.House.{Reply, No, Full'}
 use Rattle.pages.specs.declared.flow.Flow.{Flow}
-use Rattle.pages.specs.declared.flow.Tried.{Tried}
-use Rattle.pages.specs.declared.flow.Tried.TheVariants as tries
+use Rattle.pages.specs.declared.flow.Untried.TheVariants.{NoTask, NotOut}
+use Rattle.pages.specs.Events.{Tried}
 use Rattle.pages.specs.declared.flow.Task.{Task}
 use Rattle.device.specs.Lines.{Work, yields, load, store, push, fence}
 use Rattle.device.specs.Does.{Op, Did, d_end, d_load, d_store, d_push, d_fence, bind}
@@ -13,7 +13,7 @@ use Rattle.store.specs.Layout.{next_of, blocks_for, Mind}
 use Rattle.store.specs.Finds.{weight_over}
 use Rattle.store.specs.Room.{marked, chosen, looked_at}
 use Rattle.engine.specs.declared.take.Best.{Best}
-use Rattle.engine.specs.Works.{Answer, said, lost, by_slot, by_flow, by_tried, by_task, by_best, by_blocks, changes, at_flow, at_slot, show_flow, forget_flow, cancel_flow, longer_flow, report_plan, report_flow, hand_flow, take_end, take_work, born_work, start_blocks, start_free, start_work}
+use Rattle.engine.specs.Works.{Answer, said, lost, by_slot, by_flow, by_tried, by_task, by_best, by_blocks, Looking, changes, at_flow, at_slot, show_flow, forget_flow, cancel_flow, longer_flow, report_plan, report_flow, hand_flow, take_end, take_work, born_work, start_blocks, start_free, start_work}
 
 pub data Always {A : Type 0} (P : A → Type 0) : Work A → Type 0 where
   a_end : {a : A} → P a → Always P (yields a)
@@ -58,9 +58,9 @@ module _ (x : Mind) where
 
   tried : (o : Tried) (a b c : Work Answer) → Timely x a → Timely x b → Timely x c → Timely x (by_tried o a b c)
   unfolding by_tried
-  tried tries.NoTask a b c p q r = p
-  tried tries.NotOut a b c p q r = q
-  tried tries.Out a b c p q r = r
+  tried (Err NoTask) a b c p q r = p
+  tried (Err NotOut) a b c p q r = q
+  tried (Ok x) a b c p q r = r
 
   task : (o : Option Task) (a : Work Answer) (f : Task → Work Answer) → Timely x a → ((i : Task) → Timely x (f i)) → Timely x (by_task o a f)
   unfolding by_task
@@ -109,9 +109,14 @@ module _ (x : Mind) where
   unfolding report_flow report_plan
   report_timely s a w v i f = tried _ _ _ _ (a_end refl) (a_end refl) (always_bind _ _ _ (λ ws. flow _ _ _ (a_end refl) (change i _)))
 
+  ended : (ms : ℕ) (o : Looking) → Timely x (take_end ms x o)
+  unfolding take_end hand_flow
+  ended ms (Err d) = a_end refl
+  ended ms (Ok a) = best a _ _ (a_end refl) (λ b. at_flow_lem (hand_flow ms x) b.slot (λ f. task _ _ _ (a_end refl) (λ u. change b.slot _ _)))
+
   pub take_timely : (ks : List ℕ) (ms : ℕ) → Timely x (take_work ks ms x)
-  unfolding take_work take_end hand_flow
-  take_timely ks ms = always_bind _ _ _ (λ a. either _ _ _ (a_end refl) (best _ _ _ (a_end refl) (λ b. at_flow_lem (hand_flow ms x) b.slot (λ f. task _ _ _ (a_end refl) (λ u. change b.slot _ _)))))
+  unfolding take_work
+  take_timely ks ms = always_bind _ _ _ (ended ms)
 
   born_timely : (i : ℕ) (es d q ws : List ℕ) (f : Flow) → Timely x (born_work x i es d q ws f)
   unfolding born_work

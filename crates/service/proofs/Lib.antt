@@ -1,4 +1,5 @@
 pub mod Papers
 pub mod Always
 pub mod Keys
+pub mod Copies
 pub mod Serving

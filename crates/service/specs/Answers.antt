@@ -1,6 +1,7 @@
 -- The answer to a call. Assumes nothing.
-use Rattle.std.specs.Prelude.{ℕ, ◌<◌, ◌≤◌, cond, List, [], ◌∷◌, ◌==◌}
+use Rattle.std.specs.Prelude.{ℕ, ◌≡◌, cond, List, [], ◌∷◌, ◌==◌, Result}
 use Rattle.flows.specs.House.{Call, No}
+use Rattle.plans.specs.declared.eval.Damaged.{Damaged}
 use Rattle.device.specs.Lines.{Work}
 use Rattle.device.specs.Does.{Op}
 use Rattle.store.specs.Layout.{Mind}
@@ -22,17 +23,11 @@ unfoldable pub acts_on : List Call → Mind → Work Answer
 acts_on [] x = said (No 1) x
 acts_on (c ∷ cs) x = acts c x
 
--- memory of a size that the house can use, and a time that one may be told
-pub record Fit (lines time : ℕ) : Type 0 where
-  pub large : 32768 ≤ lines
-  pub small : lines ≤ 1099511627776
-  pub early : time < 4611686018427387904
-
--- a call on a house, from one state of its memory, of what it holds and of its directory to others
-pub record Served {S : Type 0} (step : S → Op → S → Type 0) (size : S → ℕ) (w : Mind → Work Answer) (s : S) (h : Held) (d : List ℕ) (r : Reply) (t : S) (k : Held) (e : List ℕ) : Type 0 where
+-- a call on a house, from one state of its memory, of what it holds and of its directory to others; the memory keeps its size
+pub record Served {S : Type 0} (step : S → Op → S → Type 0) (size : S → ℕ) (w : Mind → Work Answer) (s : S) (h : Held) (d : List ℕ) (r : Result Reply Damaged) (t : S) (k : Held) (e : List ℕ) : Type 0 where
   pub done : Done step (w (mind_of (size s) h d)) s r (mind_of (size s) k e) t
-  pub fit : Fit (size t) k.time
+  pub stays : size t ≡ size s
 
 -- a call such as bytes can hold is answered as it is meant
-abbrev pub Serves : {S : Type 0} (step : S → Op → S → Type 0) (size : S → ℕ) → Raw → S → Held → (dir : List ℕ) → Reply → S → Held → (dir : List ℕ) → Type 0
-Serves step size c s h d r t k e = InRange c → Fit (size s) h.time → Served step size (answers (call_of c)) s h d r t k e
+abbrev pub Serves : {S : Type 0} (step : S → Op → S → Type 0) (size : S → ℕ) → Raw → S → Held → (dir : List ℕ) → Result Reply Damaged → S → Held → (dir : List ℕ) → Type 0
+Serves step size c s h d r t k e = InRange c → Served step size (answers (call_of c)) s h d r t k e

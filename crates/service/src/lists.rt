@@ -1,9 +1,9 @@
-// Parts of calls as slices of words.
-ghost use Rattle.std.specs.Prelude.{◌≡◌, ◌≤◌, length, take};
+// Parts of calls as words.
+ghost use Rattle.std.specs.Prelude.{◌≡◌, ◌≤◌, ◌↔◌, length, take, IfSome, IsSome};
 ghost use Rattle.plans.specs.Plan.{name_ok};
-ghost use Rattle.calls.specs.Seen.{words_held, kinds_held};
+ghost use Rattle.calls.specs.Held.{numbers_held};
 
-use calls::types::{Kinds, Words};
+use calls::types::{Numbers, Wide};
 
 // Is it a key: 1 to 64 bytes?
 pub fn is_key(key: &[u8]) -> bool
@@ -12,22 +12,20 @@ pub fn is_key(key: &[u8]) -> bool
     0 < key.len() && key.len() <= 64
 }
 
-// The words, one after the other.
-pub fn copy_words(words: Words<'_>, out: &mut [u64; 16])
-    requires { length (words_held words) ≤ 16 }
-    ensures { take (length (words_held words.entry)) out.new ≡ words_held words.entry }
+// The numbers as words, one after the other, and 0 behind them; None where there are more than N.
+pub fn copied<T: Wide, const N: usize>(numbers: Numbers<'_, T>) -> Option<[u64; N]>
+    ensures same { IfSome result (λ out. take (length (numbers_held T.WIDTH T.at numbers.entry)) out ≡ numbers_held T.WIDTH T.at numbers.entry) }
+    ensures there { IsSome result ↔ (length (numbers_held T.WIDTH T.at numbers.entry) ≤ N) }
 {
-    for i in 0..words.len() {
-        out[i] = words.get(i);
+    if numbers.len() > N {
+        return None;
     }
-}
-
-// The kinds, one after the other.
-pub fn copy_kinds(kinds: Kinds<'_>, out: &mut [u64; 64])
-    requires { length (kinds_held kinds) ≤ 64 }
-    ensures { take (length (kinds_held kinds.entry)) out.new ≡ kinds_held kinds.entry }
-{
-    for i in 0..kinds.len() {
-        out[i] = u64::from(kinds.get(i));
+    let mut out = [0; N];
+    for i in 0..numbers.len() {
+        out[i] = match numbers.get(i) {
+            Some(number) => number.widen(),
+            None => 0,
+        };
     }
+    Some(out)
 }

@@ -6,7 +6,8 @@ ghost use Rattle.service.specs.Planned.{Planned};
 use plans::sheet::{Full, Sheet};
 use reading::read;
 
-// Words of a plan, of which the first `len` are written.
+// Words of a plan, of which the first `len` are written. An array and not a vector: a sheet promises nothing of its room once
+// it was refused, and this one is written again at each call.
 #[derive(Clone, Copy)]
 pub struct Paper {
     pub words: [u64; 16384],

@@ -1,6 +1,0 @@
-use Rattle.std.proofs.Common.{◌≡◌, ◌++◌, take, vec_items}
-use Rattle.calls.specs.Bytes.{all_four}
-use Rattle.scripts.proofs.bytes.put_kinds.Given as goal
-
-abbrev pub invariant-loop-i : goal.invariant-loop-i
-invariant-loop-i l = vec_items l.out ≡ vec_items l.initial.out ++ all_four (take l.i l.kinds)
