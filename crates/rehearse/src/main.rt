@@ -6,15 +6,10 @@ use std::io::{BufRead, BufReader};
 
 // Does a line of a script begin with one of the words for calls.
 fn is_call(word: &str) -> bool {
-    word == "start"
-        || word == "tell"
-        || word == "cancel"
-        || word == "take"
-        || word == "longer"
-        || word == "report"
-        || word == "show"
-        || word == "forget"
-        || word == "time"
+    matches!(
+        word,
+        "start" | "tell" | "cancel" | "take" | "longer" | "report" | "show" | "forget" | "time"
+    )
 }
 
 fn play(rt: &HostRuntime) -> anyhow::Result<()> {

@@ -10,15 +10,15 @@ use crate::lines::{Asked, Line};
 use calls::types::{Attempt, FlowId, Step};
 use std::alloc::{AllocError, Global};
 
-// A number whose bytes are put behind others, the high byte first.
-pub trait Written {
+// A number that is written with a fixed count of bytes, the high byte first.
+pub trait Wide {
     ghost bytes: { Self → List ℕ };
 
     fn put(self, out: &mut Vec<u8>) -> Result<(), AllocError>
         ensures { OnOk result (out.new.items ≡ out.old.items ++ bytes self) };
 }
 
-impl Written for u16 {
+impl Wide for u16 {
     ghost bytes = { two_bytes };
 
     fn put(self, out: &mut Vec<u8>) -> Result<(), AllocError> {
@@ -26,7 +26,7 @@ impl Written for u16 {
     }
 }
 
-impl Written for u32 {
+impl Wide for u32 {
     ghost bytes = { four_bytes };
 
     fn put(self, out: &mut Vec<u8>) -> Result<(), AllocError> {
@@ -34,7 +34,7 @@ impl Written for u32 {
     }
 }
 
-impl Written for u64 {
+impl Wide for u64 {
     ghost bytes = { eight_bytes };
 
     fn put(self, out: &mut Vec<u8>) -> Result<(), AllocError> {
@@ -63,7 +63,7 @@ fn put_long(out: &mut Vec<u8>, bytes: &[u8]) -> Result<(), AllocError>
 }
 
 // All of them, one behind the other.
-fn put_all<T: Written + Copy>(out: &mut Vec<u8>, values: &[T]) -> Result<(), AllocError>
+fn put_all<T: Wide + Copy>(out: &mut Vec<u8>, values: &[T]) -> Result<(), AllocError>
     ensures { OnOk result (out.new.items ≡ out.old.items ++ all_of T.bytes values.now) }
 {
     for value in values {

@@ -109,6 +109,7 @@ fn listed<T: Drop, F: Fn(&[u8]) -> Result<T, BadLine>>(
     end: &End,
     number_in: F,
 ) -> Result<Vec<T>, BadLine>
+    requires { F.IsAlwaysCallable number_in }
     ensures { IfOk result (λ v. vec_len v < 256) }
 {
     let mut found = Vec::new(heap);

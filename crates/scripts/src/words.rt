@@ -18,9 +18,7 @@ fn blanks(text: &[u8]) -> usize
 fn letters(text: &[u8]) -> usize
     ensures { result ≤ length text.now }
 {
-    text.iter()
-        .position(|b| is_blank(*b))
-        .unwrap_or(text.len())
+    text.iter().position(|b| is_blank(*b)).unwrap_or(text.len())
 }
 
 // How many bytes there are up to the last that is no blank.

@@ -1,13 +1,13 @@
 use Rattle.std.proofs.Common.{◌++◌, vec_items, ap, ◌∙◌, arith, take_all}
-use Rattle.calls.specs.Bytes.{all_eight}
-use Rattle.scripts.proofs.Joins.{no_eight, more_eight}
-use Rattle.scripts.proofs.bytes.put_words.Goals as goal
+use Rattle.calls.specs.Bytes.{all_of}
+use Rattle.scripts.proofs.Joins.{none_more, one_more}
+use Rattle.scripts.proofs.bytes.put_all.Goals as goal
 
-pub loop-i-init : goal.loop-i-init
-loop-i-init c = no_eight (vec_items c.args.out.now)
+pub loop-value-init : goal.loop-value-init
+loop-value-init g c = none_more g.T.Wide.bytes (vec_items c.args.out.now)
 
-pub loop-i-preserved : goal.loop-i-preserved
-loop-i-preserved c = more_eight _ _ _ c.args.words.now c.loop-i.i (omega arith) c.loop-i.invariant c.in_ok-put_eight.ensures
+pub loop-value-preserved : goal.loop-value-preserved
+loop-value-preserved g c = one_more g.T.Wide.bytes _ _ _ c.args.values.now c.loop-value.value-index c.value-item.result (omega arith) c.loop-value.invariant (c.in_ok-put.ensures ∙ ap (λ x. vec_items c.loop-value.out ++ g.T.Wide.bytes x) c.value-item.is)
 
 pub returns : goal.returns
-returns c = c.loop-i.invariant ∙ ap (λ ws. vec_items c.args.out.now ++ all_eight ws) (take_all c.loop-i.i c.args.words.now (omega arith))
+returns g c = c.loop-value.invariant ∙ ap (λ ws. vec_items c.args.out.now ++ all_of g.T.Wide.bytes ws) (take_all c.loop-value.value-index c.args.values.now (omega arith))

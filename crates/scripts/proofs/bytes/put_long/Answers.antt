@@ -6,4 +6,4 @@ use Rattle.scripts.proofs.bytes.put_long.Goals as goal
 
 pub returns : goal.returns
 unfolding raw_bytes
-returns c = (joins (vec_items c.args.out.now) (four_bytes (length c.args.bytes.now)) c.args.bytes.now c.in_ok-put_four.ensures c.in_ok-extend_from_slice.ensures.items)
+returns c = (joins (vec_items c.args.out.now) (four_bytes (length c.args.bytes.now)) c.args.bytes.now c.in_ok-put.ensures c.in_ok-extend_from_slice.ensures.items)

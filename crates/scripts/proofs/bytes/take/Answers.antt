@@ -6,4 +6,4 @@ use Rattle.scripts.proofs.bytes.take.Goals as goal
 
 pub returns : goal.returns
 unfolding raw_bytes
-returns c = first c.new-out.ensures.items (joins (vec_items c.new-out.result) (4 ∷ []) ((length c.args.kinds.now ∷ []) ++ ((all_four c.args.kinds.now) ++ (four_bytes c.args.ms))) c.in_ok-push.ensures.items (joins (vec_items c.push.new.self) (length c.args.kinds.now ∷ []) ((all_four c.args.kinds.now) ++ (four_bytes c.args.ms)) c.in_ok-push-2.ensures.items (joins (vec_items c.push-2.new.self) (all_four c.args.kinds.now) (four_bytes c.args.ms) c.in_ok-put_kinds.ensures c.in_ok-put_four.ensures)))
+returns c = first c.new-out.ensures.items (joins (vec_items c.new-out.result) (4 ∷ []) ((length c.args.kinds.now ∷ []) ++ ((all_four c.args.kinds.now) ++ (four_bytes c.args.ms))) c.in_ok-push.ensures.items (joins (vec_items c.push.new.self) (length c.args.kinds.now ∷ []) ((all_four c.args.kinds.now) ++ (four_bytes c.args.ms)) c.in_ok-push-2.ensures.items (joins (vec_items c.push-2.new.self) (all_four c.args.kinds.now) (four_bytes c.args.ms) c.in_ok-put_all.ensures c.in_ok-put.ensures)))

@@ -1,5 +1,5 @@
 use Rattle.std.proofs.Common.{◌≡◌, vec_len}
-use Rattle.scripts.proofs.read.words_of.Given as goal
+use Rattle.scripts.proofs.read.listed.Given as goal
 
 abbrev pub invariant-loop-i : goal.invariant-loop-i
-invariant-loop-i l = vec_len l.found ≡ l._i
+invariant-loop-i g l = vec_len l.found ≡ l._i
