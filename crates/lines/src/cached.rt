@@ -32,7 +32,10 @@ impl Cached {
         let count = lines as usize;
         Ok(Cached {
             words: vec![in heap; Word { lasts: 0, sees: 0 }; count * 8]?,
-            lines: vec![in heap; LineStores { count: 0, pushed: 0 }; count]?,
+            lines: vec![in heap; LineStores {
+                count: 0,
+                pushed: 0
+            }; count]?,
             journal: Vec::new(heap),
             stopped: false,
         })
