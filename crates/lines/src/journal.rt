@@ -78,6 +78,7 @@ pub fn settle_all(words: &mut Vec<Word>, lines: &mut Vec<LineStores>, journal: &
     ensures walk { settling (lasts_in words.new.items) (counts_in lines.new.items) (pushed_in lines.new.items) journal.new.items ≡ settle journal.old.items (settling (lasts_in words.old.items) (counts_in lines.old.items) (pushed_in lines.old.items) []) }
     ensures sees { sees_in words.new.items ≡ sees_in words.old.items }
 {
+    // By index, since the contract of `retain` says nothing of what its closure has written to `words` and `lines`.
     let mut staying = 0;
     for i in 0..journal.len() {
         let store = journal[i];
