@@ -1,28 +1,21 @@
 // Loading and saving on the layout.
-ghost use Rattle.std.specs.Prelude.{◌≡◌, ℕ, ◌+◌, ◌-◌, ◌*◌, ◌/◌, ◌%◌, ◌<◌, ◌≤◌, length};
+ghost use Rattle.std.specs.Prelude.{◌≡◌, ℕ, ◌+◌, ◌-◌, ◌*◌, ◌/◌, ◌%◌, ◌≤◌, length};
 ghost use Rattle.device.specs.Does.{Did};
 ghost use Rattle.store.specs.Layout.{Mind, size_at};
 ghost use Rattle.store.specs.Works.{rise_work, load_page, load_plan, save_page, save_entry, save_plan, flip_to};
 
 use crate::dir::Dir;
+use crate::limits::Limited;
 use crate::root::pick;
 use crate::slot::{PageCopy, Slot};
 use blocks::{Blocks, blocks_in};
-use device::Device;
 use words::{flip, load_words, save_words};
-
-// Memory has at least so many lines, and at most so many.
-pub const LEAST_LINES: u64 = 32768;
-
-pub const MOST_LINES: u64 = 1099511627776;
 
 // The words of a flow's page.
 pub const PAGE_WORDS: usize = 128;
 
 // Loads the root word, the root page that it picks, and the directory.
-pub fn rise<D: Device>(dev: &mut D, root: &mut [u64; 40], dir: &mut Dir) -> u64
-    requires fits { 32768 ≤ D.size dev.old }
-    requires few { D.size dev.old ≤ 1099511627776 }
+pub fn rise<D: Limited>(dev: &mut D, root: &mut [u64; 40], dir: &mut Dir) -> u64
     ensures did { Did D.step (rise_work (D.size dev.old)) dev.old (record { lines = D.size dev.old; now = 0; word = result; page = root.new; dir = dir.new }) dev.new }
     ensures stays { D.size dev.new ≡ D.size dev.old }
 {
@@ -33,15 +26,13 @@ pub fn rise<D: Device>(dev: &mut D, root: &mut [u64; 40], dir: &mut Dir) -> u64
 }
 
 // A slot's page as it counts.
-pub fn load_page<D: Device>(
+pub fn load_page<D: Limited>(
     dev: &mut D,
     root: &[u64; 40],
     dir: &Dir,
     slot: Slot,
     out: &mut [u64; 128],
 )
-    requires fits { 32768 ≤ D.size dev.old }
-    requires few { D.size dev.old ≤ 1099511627776 }
     ensures did { Did D.step (load_page (D.size dev.old) root.now dir.now slot) dev.old out.new dev.new }
     ensures stays { D.size dev.new ≡ D.size dev.old }
 {
@@ -53,9 +44,7 @@ pub fn load_page<D: Device>(
 }
 
 // A slot's plan, of which `out` has the length.
-pub fn load_plan<D: Device>(dev: &mut D, dir: &Dir, slot: Slot, out: &mut [u64])
-    requires fits { 32768 ≤ D.size dev.old }
-    requires few { D.size dev.old ≤ 1099511627776 }
+pub fn load_plan<D: Limited>(dev: &mut D, dir: &Dir, slot: Slot, out: &mut [u64])
     requires whole { length out.old ≡ 4 * size_at dir.now slot }
     ensures did { Did D.step (load_plan (D.size dev.old) dir.now slot) dev.old out.new dev.new }
     ensures stays { D.size dev.new ≡ D.size dev.old }
@@ -68,9 +57,7 @@ pub fn load_plan<D: Device>(dev: &mut D, dir: &Dir, slot: Slot, out: &mut [u64])
 }
 
 // Writes a copy of a slot's page, and pushes it.
-pub fn save_page<D: Device>(dev: &mut D, dir: &Dir, slot: Slot, copy: PageCopy, words: &[u64; 128])
-    requires fits { 32768 ≤ D.size dev.old }
-    requires few { D.size dev.old ≤ 1099511627776 }
+pub fn save_page<D: Limited>(dev: &mut D, dir: &Dir, slot: Slot, copy: PageCopy, words: &[u64; 128])
     ensures did { Did D.step (save_page (D.size dev.old) dir.now slot copy words.now) dev.old tt dev.new }
     ensures stays { D.size dev.new ≡ D.size dev.old }
 {
@@ -82,9 +69,7 @@ pub fn save_page<D: Device>(dev: &mut D, dir: &Dir, slot: Slot, copy: PageCopy, 
 }
 
 // Writes a new plan into its blocks, and pushes it.
-pub fn save_plan<D: Device>(dev: &mut D, dir: &Dir, slot: Slot, words: &[u64])
-    requires fits { 32768 ≤ D.size dev.old }
-    requires few { D.size dev.old ≤ 1099511627776 }
+pub fn save_plan<D: Limited>(dev: &mut D, dir: &Dir, slot: Slot, words: &[u64])
     requires short { length words.now ≤ 16384 }
     ensures did { Did D.step (save_plan (D.size dev.old) dir.now slot words.now) dev.old tt dev.new }
     ensures stays { D.size dev.new ≡ D.size dev.old }
@@ -97,8 +82,7 @@ pub fn save_plan<D: Device>(dev: &mut D, dir: &Dir, slot: Slot, words: &[u64])
 }
 
 // Writes the entry of a slot that is not in use, and pushes it.
-pub fn save_entry<D: Device>(dev: &mut D, slot: Slot, entry: &[u64; 96])
-    requires fits { 32768 ≤ D.size dev.old }
+pub fn save_entry<D: Limited>(dev: &mut D, slot: Slot, entry: &[u64; 96])
     ensures did { Did D.step (save_entry slot entry.now) dev.old tt dev.new }
     ensures stays { D.size dev.new ≡ D.size dev.old }
 {
@@ -106,8 +90,7 @@ pub fn save_entry<D: Device>(dev: &mut D, slot: Slot, entry: &[u64; 96])
 }
 
 // Writes the other root page, and then has it count.
-pub fn commit<D: Device>(dev: &mut D, word: u64, root: &[u64; 40])
-    requires { 32768 ≤ D.size dev.old }
+pub fn commit<D: Limited>(dev: &mut D, word: u64, root: &[u64; 40])
     ensures did { Did D.step (flip_to word root.now) dev.old tt dev.new }
     ensures stays { D.size dev.new ≡ D.size dev.old }
 {

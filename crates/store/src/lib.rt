@@ -4,6 +4,7 @@
 pub mod dir;
 pub mod entry;
 pub mod keep;
+pub mod limits;
 pub mod room;
 pub mod root;
 pub mod slot;
