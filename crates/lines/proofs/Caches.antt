@@ -54,19 +54,6 @@ load_step s t l k v e same hl hk value =
       };
     }
 
--- an operation that is not done: the memory has stopped
-pub stop_step : (s t : Cached) (o : Op) → held_in t ≡ held_in s → t.stopped ≡ true → CachedStep s o t
-stop_step s t o e stop =
-    let size : lines_in t ≡ lines_in s = lines_same s t (ap (λ h. length h.sees) e) in
-    record {
-      size = size;
-      follows = record {
-        goes = λ z m x. absurd (both_ways t.stopped z stop);
-        stops = λ z m x. stands_by t (lines_in s) (held_in s) m size e (tied_in s m x);
-        still = λ z. stop;
-      };
-    }
-
 -- ---- stores
 
 abbrev storing : Store → Held → Held
@@ -457,12 +444,3 @@ fresh_stands s n ws xs js =
     let e : held_in s ≡ record { lasts = replicate (8 * n) 0; sees = replicate (8 * n) 0; journal = []; counts = replicate n 0; pushed = replicate n 0 } =
     λ i. record { lasts = ls i; sees = ss i; journal = js i; counts = cs i; pushed = ps i } in
     (stands_by s n _ fresh_lines size e (fresh_held n), size)
-
--- ---- copies
-
-pub copy_stands : (s t : Cached) → vec_items t.words ≡ vec_items s.words → vec_items t.lines ≡ vec_items s.lines → vec_items t.journal ≡ vec_items s.journal
-    → ((m : Lines) → Stands s m → Stands t m) × (lines_in t ≡ lines_in s)
-copy_stands s t ws xs js =
-    let size : lines_in t ≡ lines_in s = lines_same s t (ap (λ r. length (sees_in r)) ws) in
-    let e : held_in t ≡ held_in s = λ i. record { lasts = lasts_in (ws i); sees = sees_in (ws i); journal = js i; counts = counts_in (xs i); pushed = pushed_in (xs i) } in
-    (λ m x. stands_by t (lines_in s) (held_in s) m size e (tied_in s m x), size)
