@@ -5,7 +5,7 @@ use Rattle.std.proofs.lemmas.List.{length-map}
 use lib.ListN.{length-replicate, get_or-replicate, get_or-eq_default}
 use borrow.Author.Tests.{eqb-false, both_ways}
 use Rattle.device.specs.Lines.{Line, Lines, fresh_lines, applied, first_of, drop_of, seen, stored, pushed_back, fenced}
-use Rattle.device.specs.Does.{Op, Loaded, Stored, Pushed, Fenced}
+use Rattle.device.specs.Does.{Loaded, Stored, Pushed, Fenced}
 use Rattle.device.proofs.Image.{wrote, applied_snoc, applied_parts}
 use Rattle.lines.specs.declared.journal.Store.{Store}
 use Rattle.lines.specs.declared.cached.Cached.{Cached}

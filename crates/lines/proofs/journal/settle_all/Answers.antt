@@ -34,11 +34,8 @@ loop-i-preserved c =
       )
     ]
 
-pub returns : goal.returns
-returns c =
+pub returns-clause-walk : goal.returns-clause-walk
+returns-clause-walk c =
     let xs = vec_items c.loop-i.journal in
     let last = settling (lasts_in c.loop-i.words.items) (counts_in c.loop-i.lines.items) (pushed_in c.loop-i.lines.items) in
-    record {
-      walk = ap last c.truncate.ensures.items ∙ sym (settle_end xs c.loop-i.i (last (take c.loop-i.staying xs)) (omega arith)) ∙ c.loop-i.invariant.2;
-      sees = c.loop-i.invariant.3;
-    }
+    ap last c.truncate.ensures.items ∙ sym (settle_end xs c.loop-i.i (last (take c.loop-i.staying xs)) (omega arith)) ∙ c.loop-i.invariant.2

@@ -5,11 +5,9 @@ use Rattle.store.specs.Works.{load_page}
 use Rattle.store.proofs.Same.{load_same}
 use Rattle.store.proofs.keep.load_page.Goals as goal
 
-pub returns : goal.returns
+pub returns-clause-did : goal.returns-clause-did
 unfolding load_page
-returns g c =
+returns-clause-did g c =
     let total = c.blocks_in.ensures ∙ ap blocks_in c.lines.ensures in
-    record {
-      did = load_same g.D.Device.step total (c.page_blocks.ensures.is ∙ ap (page_blocks c.args.dir.now c.args.slot) c.pick.ensures) c.told-out c.load.ensures.did;
-      stays = c.load.ensures.stays;
-    }
+    let blocks = c.page_blocks.ensures.is ∙ ap (page_blocks c.args.dir.now c.args.slot) c.pick.ensures in
+    load_same g.D.Device.step total blocks c.told-out c.load.ensures.did

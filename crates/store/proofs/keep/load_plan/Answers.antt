@@ -4,11 +4,6 @@ use Rattle.store.specs.Works.{load_plan}
 use Rattle.store.proofs.Same.{load_same}
 use Rattle.store.proofs.keep.load_plan.Goals as goal
 
-pub returns : goal.returns
+pub returns-clause-did : goal.returns-clause-did
 unfolding load_plan
-returns g c =
-    let total = c.blocks_in.ensures ∙ ap blocks_in c.lines.ensures in
-    record {
-      did = load_same g.D.Device.step total c.plan_blocks.ensures.is c.requires.whole c.load.ensures.did;
-      stays = c.load.ensures.stays;
-    }
+returns-clause-did g c = load_same g.D.Device.step (c.blocks_in.ensures ∙ ap blocks_in c.lines.ensures) c.plan_blocks.ensures.is c.requires.whole c.load.ensures.did

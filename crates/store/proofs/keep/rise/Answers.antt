@@ -1,15 +1,15 @@
 use Rattle.std.proofs.Common.{ℕ, ◌+◌, ◌*◌, ◌%◌, List, subst}
 use Rattle.device.specs.Lines.{Work, yields}
 use Rattle.device.specs.Does.{Did, d_load, d_end, bind}
-use Rattle.device.proofs.Did.{did_bind, did_size}
+use Rattle.device.proofs.Did.{did_bind}
 use Rattle.words.specs.Works.{load_words}
 use Rattle.store.specs.Layout.{Mind}
 use Rattle.store.specs.Works.{rise_work}
 use Rattle.store.proofs.keep.rise.Goals as goal
 
-pub returns : goal.returns
+pub returns-clause-did : goal.returns-clause-did
 unfolding rise_work
-returns g c =
+returns-clause-did g c =
     let step = g.D.Device.step in
     let n = g.D.Device.size c.args.dev.now in
     let r = c.load-word.result in
@@ -20,6 +20,4 @@ returns g c =
     subst (λ k. Did step (load_words (1 + r % 2 * 5) 0 k) c.load-word.new.self p c.load_words.new.dev) c.told-root c.load_words.ensures.did in
     let d2 : Did step (load_words 16 0 98304) c.load_words.new.dev q c.load_words-2.new.dev =
     subst (λ k. Did step (load_words 16 0 k) c.load_words.new.dev q c.load_words-2.new.dev) c.dir.told c.load_words-2.ensures.did in
-    let d : Did step (rise_work n) c.args.dev.now (record { lines = n; now = 0; word = r; page = p; dir = q }) c.load_words-2.new.dev =
-    d_load c.load-word.ensures (did_bind (λ p. bind (load_words 16 0 98304) (last r p)) d1 (did_bind (last r p) d2 d_end)) in
-    record { did = d; stays = did_size g.met.D.Device.stays d }
+    d_load c.load-word.ensures (did_bind (λ p. bind (load_words 16 0 98304) (last r p)) d1 (did_bind (last r p) d2 d_end))
