@@ -2,7 +2,7 @@
 // memory in the file PATH, which is made if it is not there. A round stores and loads 128 words of 16 lines, pushes these, and sets a fence.
 #![tactic(auto)]
 
-use anyhow::anyhow;
+use anyhow::ensure;
 use device::Device;
 use file_memory::open::open;
 use lines::cached::Cached;
@@ -50,11 +50,10 @@ fn rounds<D: Device>(memory: &mut D, count: u64) -> u64 {
 
 // What the sums have to be: 128 times each round's number.
 fn expected(count: u64) -> u64 {
-    let mut sum = 0u64;
-    for round in 0..count {
-        sum = sum.wrapping_add(round.wrapping_mul(128));
-    }
-    sum
+    (0..count).fold(
+        0,
+        |sum: u64, round| sum.wrapping_add(round.wrapping_mul(128)),
+    )
 }
 
 fn measure<D: Device>(
@@ -66,9 +65,10 @@ fn measure<D: Device>(
     let start = Instant::now(rt)?;
     let sum = rounds(memory, count);
     let micros = start.elapsed(rt)?.as_micros();
-    if sum != expected(count) {
-        return Err(anyhow!("a load gave another word than was stored"));
-    }
+    ensure!(
+        sum == expected(count),
+        "a load gave another word than was stored"
+    );
     let operations = count.wrapping_mul(OPERATIONS);
     let a_second = operations as u128 * 1_000_000 / micros.max(1);
     println!(rt; "{name}: {operations} operations in {micros} microseconds, {a_second} a second")?;
@@ -79,9 +79,10 @@ fn run(rt: &HostRuntime) -> anyhow::Result<()> {
     let mut given = env::args(rt)?.skip(1);
     let mut simulated = Cached::new(rt.alloc(), 32_768)?;
     let (Some(count), Some(path)) = (given.next(), given.next()) else {
-        if rounds(&mut simulated, 3) != expected(3) {
-            return Err(anyhow!("a load gave another word than was stored"));
-        }
+        ensure!(
+            rounds(&mut simulated, 3) == expected(3),
+            "a load gave another word than was stored"
+        );
         rt.println("three rounds: each load gives what was stored")?;
         return Ok(());
     };

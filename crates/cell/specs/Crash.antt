@@ -16,10 +16,11 @@ use Rattle.device.proofs.Image.{upd_same, at_left, at_fresh}
 use Rattle.device.proofs.Commit.{amid_rests}
 use Rattle.device.proofs.Costs.{costs_more, costs_bind, costs_commit_work}
 use Rattle.device.proofs.Did.{did_ties}
-use Rattle.words.specs.Runs.{read_from, puts, Small}
-use Rattle.words.proofs.Runs.{reads_ext, safe_load_words}
-use Rattle.words.proofs.Drafting.{drafting_start, drafting_save, drafting_flip, reads_here, reads_flipped}
-use Rattle.words.proofs.Costs.{costs_load_words, costs_save_words}
+use Rattle.words.specs.Works.{from_line}
+use Rattle.words.specs.Runs.{read_via, read_from, puts, Small}
+use Rattle.words.proofs.Runs.{reads_ext, safe_load_via}
+use Rattle.words.proofs.Drafting.{drafting_start, drafting_save_via, drafting_flip, reads_here, reads_flipped}
+use Rattle.words.proofs.Costs.{runs_cost}
 use Rattle.lines.specs.declared.cached.Cached.{Cached}
 use Rattle.lines.specs.declared.fuse.Fuse.{Fuse}
 use Rattle.lines.specs.Caches.{lines_in, Stands, CachedStep, Fails}
@@ -32,7 +33,7 @@ use Rattle.cell.specs.Trials.{Survives}
 same_cell : (h g : Image) (r : ℕ) → h 0 0 ≡ r → g 0 0 ≡ r → ((k : ℕ) → k < 16 → h (counts_at r + k / 8) (k % 8) ≡ g (counts_at r + k / 8) (k % 8)) → cell_of h ≡ cell_of g
 unfolding cell_of
 same_cell h g r p q e =
-    ap (λ x. read_from h (counts_at x) 0 16) p ∙ reads_ext h g (counts_at r) 0 16 (λ k z. e k (omega arith)) ∙ ap (λ x. read_from g (counts_at x) 0 16) (sym q)
+    ap (λ x. read_from h (counts_at x) 0 16) p ∙ reads_ext h g (from_line (counts_at r)) 0 16 (λ k z. e k (omega arith)) ∙ ap (λ x. read_from g (counts_at x) 0 16) (sym q)
 
 rest_left : (s : List ℕ) (m o : Lines) → Rest s m → Left m o → Rest s o
 rest_left s m o (g, a, e) l =
@@ -51,7 +52,7 @@ module _ (N : ℕ) (big : 5 ≤ N) (s ws : List ℕ) (sixteen : length ws ≡ 16
   put_at_lem m g r a es eg =
       safe_bind (λ x. commit_work 0 0 (1 - r % 2))
       (safe_more (λ x n calm d. drafting_flip d Decodes 0 0 (1 - r % 2) s ws old (omega arith) (omega arith) (omega arith) new) (λ n x o l. inl (amid_rests Decodes C g s old n o x l))
-      (drafting_save (drafting_start C g m a) (spare_at r) 2 ws (λ j k c h. c k h) (omega arith) (omega arith) small (λ o x. x)))
+      (drafting_save_via (drafting_start C g m a) (from_line (spare_at r)) 2 ws (λ j k c h. c k h) (omega arith) (λ l h. omega arith) small (λ o x. x)))
     where
       Decodes : Image → List ℕ → Type 0
       Decodes h x = cell_of h ≡ x
@@ -82,7 +83,7 @@ unfolding get_work cell_of
 get_rest N big s m h =
     let e : cell_of (seen m) ≡ s = same_cell (seen m) h.0 (seen m 0 0) refl (sym (h.1.shows 0 0)) (λ k z. h.1.shows _ _) ∙ h.2 in
     s_load (λ o l. rest_left s m o h l) (omega arith) (omega arith)
-    (safe_load_words m (counts_at (seen m 0 0)) 0 16 (λ o l. rest_left s m o h l) (omega arith) (e, h))
+    (safe_load_via m (from_line (counts_at (seen m 0 0))) 0 16 (λ o l. rest_left s m o h l) (λ l z. omega arith) (e, h))
 
 length_fit : (n : ℕ) (ws : List ℕ) → length (fit n ws) ≡ n
 unfolding fit
@@ -112,7 +113,7 @@ cell_does_lem N big Get s m h =
     (safe_more (λ a n r q. s_end (λ o l. inl (r o l)) (s, (ap Holds q.0, refl), q.1)) (λ n r o l. inl (r o l)) (get_rest N big s m h))
 
 cell_starts : Rest (replicate 16 0) fresh_lines
-unfolding cell_of read_from
+unfolding cell_of read_via
 cell_starts = (λ l w. 0, at_fresh, refl)
 
 pub cell_kept : (N : ℕ) → 5 ≤ N → Kept N cell_engine cell_sense Rest (λ s x m. Rest s m)
@@ -134,12 +135,12 @@ unfolding put_work
 put_costs ws e =
     c_load {l' = 0} (omega arith)
     (λ r.
-    costs_more (λ a q. q) (costs_bind (λ x. commit_work 0 0 (1 - r % 2)) (λ a q. costs_commit_work 0 0 (1 - r % 2)) (costs_save_words (spare_at r) 2 ws))
+    costs_more (λ a q. q) (costs_bind (λ x. commit_work 0 0 (1 - r % 2)) (λ a q. costs_commit_work 0 0 (1 - r % 2)) (runs_cost.saving (spare_at r) 2 ws))
     (omega arith) (omega arith) (omega arith) (omega arith))
 
 get_costs : Costs Any 17 0 0 0 get_work
 unfolding get_work
-get_costs = c_load {l' = 16} (omega arith) (λ r. costs_more (λ a q. tt) (costs_load_words (counts_at r) 0 16) (omega arith) (omega arith) (omega arith) (omega arith))
+get_costs = c_load {l' = 16} (omega arith) (λ r. costs_more (λ a q. tt) (runs_cost.loading (counts_at r) 16) (omega arith) (omega arith) (omega arith) (omega arith))
 
 pub cell_costs : CellCosts
 cell_costs = record { getting = get_costs; putting = λ ws. put_costs (fit 16 ws) (length_fit 16 ws) }

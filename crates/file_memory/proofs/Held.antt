@@ -65,17 +65,6 @@ module _ {F : Type 0} (s t : FileMemory F) where
   fence_step e run =
       quiet Fenced e (λ z. absurd (both_ways (is_broken s) run z)) (λ m h. tt) (λ m. (at_fence (at_seen m) None (λ j p. absurd p)).shows)
 
-  -- an operation that is not done, since the file is in trouble
-  pub rest_step : (o : Op) → vec_items t.words ≡ vec_items s.words → is_broken t ≡ true → FileStep s o t
-  rest_step o e broken = record {
-    size = same_lines (ap length e);
-    follows = record {
-      goes = λ z m h. absurd (both_ways (is_broken t) z broken);
-      stops = λ z m h. stands_on m m e (λ l k. refl) h;
-      still = λ z. broken;
-    };
-  }
-
   pub store_step : (l k v : ℕ) → l < lines_of s → k < 8 → vec_items t.words ≡ set (vec_items s.words) (l * 8 + k) v → is_broken s ≡ false → is_broken t ≡ false
       → FileStep s (Stored l k v) t
   store_step l k v hl hk e run run' =

@@ -1,7 +1,9 @@
 -- Words that are written as bytes and read again.
 -- Assumes nothing.
-use Rattle.std.proofs.Common.{◌≡◌, ℕ, ◌+◌, ◌*◌, ◌/◌, ◌%◌, ◌<◌, Bool, true, false, eqb, List, length, get_or, set, sym, refl, ap, ◌∙◌, arith, length-set, get_or-set_other, get_or-set_same, eqb-true}
-use borrow.Author.Tests.{eqb-false}
+use Rattle.std.proofs.Common.{◌≡◌, ℕ, ◌+◌, ◌-◌, ◌*◌, ◌/◌, ◌%◌, ◌<◌, ◌≤◌, Bool, true, false, ltb, List, ◌++◌, length, get_or, take, drop, refl, ap, ◌∙◌, arith, length-append, length-drop, length-take-le, get_or-take, ltb-true, ltb-false}
+use Rattle.std.proofs.Math.ListN.{get_or-append}
+use Rattle.std.proofs.lemmas.List.{get_or-append_right}
+use borrow.Rule.Slice.PartMut.{put_mid, post_of}
 use Rattle.file_memory.specs.Bytes.{bytes_of, word_of, Laid, BytesReadBack}
 
 digits : (w : ℕ) → w < 18446744073709551616
@@ -27,11 +29,36 @@ read_back ws start bs laid k hk small =
     let b7 = b 7 (8 * k + 7) (omega arith) refl in
     (λ i. word_of (b0 i) (b1 i) (b2 i) (b3 i) (b4 i) (b5 i) (b6 i) (b7 i)) ∙ digits (get_or ws (start + k) 0) small
 
--- one byte more
-pub laid_more : (bs : List ℕ) (i v : ℕ) (F : ℕ → ℕ) → length bs ≡ 64 → i < 64 → v ≡ F i → ((k : ℕ) → k < i → get_or bs k 0 ≡ F k)
-    → (length (set bs i v) ≡ 64) × ((k : ℕ) → k < i + 1 → get_or (set bs i v) k 0 ≡ F k)
-laid_more bs i v F len hi e h = (length-set bs i v ∙ len, λ k hk. go k hk (eqb k i) refl)
+-- the bytes of one word more
+pub word_more : (bs ys : List ℕ) (k : ℕ) (F : ℕ → List ℕ) → length bs ≡ 64 → k < 8 → ys ≡ F k → length (F k) ≡ 8 → ((j : ℕ) → j < 8 * k → get_or bs j 0 ≡ get_or (F (j / 8)) (j % 8) 0)
+    → (length (put_mid (8 * k) (8 * k + 8 - 8 * k) bs ys) ≡ 64)
+    × ((j : ℕ) → j < 8 * (k + 1) → get_or (put_mid (8 * k) (8 * k + 8 - 8 * k) bs ys) j 0 ≡ get_or (F (j / 8)) (j % 8) 0)
+word_more bs ys k F long low same eight before = (whole, λ j h. go j h (ltb j (8 * k)) refl)
   where
-    go : (k : ℕ) → k < i + 1 → (b : Bool) → eqb k i ≡ b → get_or (set bs i v) k 0 ≡ F k
-    go k hk true q = ap (λ j. get_or (set bs i v) j 0) (eqb-true k i q) ∙ get_or-set_same bs i v 0 (omega arith) ∙ e ∙ ap F (sym (eqb-true k i q))
-    go k hk false q = let ne : k ≡ i → ⊥ = eqb-false k i q in get_or-set_other bs i k v 0 ne ∙ h k (omega arith)
+    front : length (take (8 * k) bs) ≡ 8 * k
+    front = length-take-le (8 * k) bs (omega arith)
+
+    back : List ℕ
+    back = post_of (8 * k) (8 * k + 8 - 8 * k) bs
+
+    ys_long : length ys ≡ 8
+    ys_long = ap length same ∙ eight
+
+    whole : length (take (8 * k) bs ++ (ys ++ back)) ≡ 64
+    whole =
+        let a = length-append (take (8 * k) bs) (ys ++ back) in
+        let b = length-append ys back in
+        let c = length-drop (8 * k + 8 - 8 * k) (drop (8 * k) bs) in
+        let d = length-drop (8 * k) bs in
+        omega (arith, front, ys_long)
+
+    go : (j : ℕ) → j < 8 * (k + 1) → (b : Bool) → ltb j (8 * k) ≡ b → get_or (take (8 * k) bs ++ (ys ++ back)) j 0 ≡ get_or (F (j / 8)) (j % 8) 0
+    go j h true q =
+        let under : j < 8 * k = ltb-true j (8 * k) q in
+        get_or-append (take (8 * k) bs) (ys ++ back) 0 j (omega (arith, front)) ∙ get_or-take (8 * k) bs j 0 under ∙ before j under
+    go j h false q =
+        let over : 8 * k ≤ j = ltb-false j (8 * k) q in
+        let word : k ≡ j / 8 = omega arith in
+        let byte : j - 8 * k ≡ j % 8 = omega arith in
+        get_or-append_right (take (8 * k) bs) (ys ++ back) (8 * k) j 0 front over ∙ get_or-append ys back 0 (j - 8 * k) (omega (arith, ys_long))
+        ∙ ap (λ xs. get_or xs (j - 8 * k) 0) same ∙ (λ i. get_or (F (word i)) (byte i) 0)

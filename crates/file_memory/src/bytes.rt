@@ -1,5 +1,5 @@
 // Words as bytes, the high byte first.
-ghost use Rattle.std.specs.Prelude.{◌≡◌, ℕ, ◌+◌, ◌*◌, ◌/◌, ◌<◌, ◌≤◌, length, vec_len};
+ghost use Rattle.std.specs.Prelude.{◌≡◌, ℕ, ◌+◌, ◌*◌, ◌/◌, ◌<◌, ◌≤◌, length};
 ghost use Rattle.file_memory.specs.Bytes.{word_in, Laid, BytesReadBack};
 
 // The word whose bytes begin at `at`.
@@ -7,27 +7,17 @@ pub fn word_at(bytes: &[u8], at: usize) -> u64
     requires { at + 8 ≤ length bytes.now }
     ensures { result ≡ word_in bytes.now at }
 {
-    u64::from_be_bytes([
-        bytes[at],
-        bytes[at + 1],
-        bytes[at + 2],
-        bytes[at + 3],
-        bytes[at + 4],
-        bytes[at + 5],
-        bytes[at + 6],
-        bytes[at + 7],
-    ])
+    u64::from_be_bytes(*bytes[at..].first_chunk().unwrap())
 }
 
 // The bytes of the eight words from `start` on.
-pub fn line_bytes(words: &Vec<u64>, start: usize) -> [u8; 64]
-    requires { start + 8 ≤ vec_len words.now }
-    ensures { Laid words.now.items start result }
+pub fn line_bytes(words: &[u64], start: usize) -> [u8; 64]
+    requires { start + 8 ≤ length words.now }
+    ensures { Laid words.now start result }
 {
-    let mut bytes = [0u8; 64];
-    for i in 0..64 {
-        let word = words[start + i / 8].to_be_bytes();
-        bytes[i] = word[i % 8];
+    let mut bytes = [0; 64];
+    for (k, word) in words[start..start + 8].iter().enumerate() {
+        bytes[8 * k..8 * k + 8].copy_from_slice(&word.to_be_bytes());
     }
     bytes
 }

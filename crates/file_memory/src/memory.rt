@@ -85,7 +85,7 @@ impl<F: Write + Seek + OpenFile> Device for FileMemory<F> {
 
     fn push(&mut self, line: u64) {
         if self.trouble.is_none() {
-            let bytes = line_bytes(&self.words, (line * 8) as usize);
+            let bytes = line_bytes(self.words.as_slice(), (line * 8) as usize);
             if let Err(e) = self.write_line(line.wrapping_mul(64), &bytes) {
                 self.trouble = Some(e);
             }

@@ -83,10 +83,7 @@ fn lines_in(length: u64) -> Result<u64, OpenError>
 // there; and it is synced once more after that, since the folder itself cannot be.
 fn make<R: Files>(rt: &R, heap: Global, path: &str) -> Result<R::File, OpenError> {
     let fresh = format!(in heap; "{path}.new")?;
-    match make_fresh(rt, fresh.as_str(), path) {
-        Ok(file) => Ok(file),
-        Err(e) => Err(OpenError::NotMade(e)),
-    }
+    make_fresh(rt, fresh.as_str(), path).map_err(OpenError::NotMade)
 }
 
 fn make_fresh<R: Files>(rt: &R, fresh: &str, path: &str) -> io::Result<R::File> {
@@ -108,13 +105,12 @@ fn read_words<F: Read>(file: &mut F, words: &mut Vec<u64>) -> io::Result<()>
     ensures { vec_len words.new ≡ vec_len words.old }
 {
     let mut buffer = [0u8; 4096];
-    for i in 0..words.len() {
-        let at = i % 512 * 8;
-        if at == 0 {
-            let count = (words.len() - i).min(512);
-            file.read_exact(&mut buffer[0..count * 8])?;
+    for part in words.chunks_mut(512) {
+        let bytes = &mut buffer[..8 * part.len()];
+        file.read_exact(bytes)?;
+        for (k, word) in part.iter_mut().enumerate() {
+            *word = word_at(bytes, 8 * k);
         }
-        words[i] = word_at(&buffer, at);
     }
     Ok(())
 }
@@ -125,22 +121,12 @@ pub fn open<R: Files>(rt: &R, heap: Global, path: &str) -> Result<FileMemory<R::
 {
     let mut file = match OpenOptions::new().read(true).write(true).open(rt, path) {
         Ok(file) => file,
-        Err(e) => {
-            if e.kind() != ErrorKind::NotFound {
-                return Err(OpenError::NotOpened(e));
-            }
-            make(rt, heap, path)?
-        }
+        Err(e) if e.kind() == ErrorKind::NotFound => make(rt, heap, path)?,
+        Err(e) => return Err(OpenError::NotOpened(e)),
     };
-    let length = match file.metadata() {
-        Ok(metadata) => metadata.len(),
-        Err(e) => return Err(OpenError::NotRead(e)),
-    };
+    let length = file.metadata().map_err(OpenError::NotRead)?.len();
     let held = lines_in(length)?.min(HELD_LINES);
     let mut words = vec![in heap; 0u64; held as usize * 8]?;
-    match read_words(&mut file, &mut words) {
-        Ok(()) => {}
-        Err(e) => return Err(OpenError::NotRead(e)),
-    }
+    read_words(&mut file, &mut words).map_err(OpenError::NotRead)?;
     Ok(FileMemory::over(file, words))
 }

@@ -1,15 +1,17 @@
 -- The operations of the simulated memory are the given ones, and its failure is a power failure.
 -- Assumes nothing.
-use Rattle.std.proofs.Common.{◌≡◌, ℕ, ◌+◌, ◌*◌, ◌/◌, ◌%◌, ◌<◌, ◌≤◌, Bool, true, false, cond, eqb, ltb, ◌⊎◌, List, [], ◌∷◌, ◌++◌, length, get_or, set, replicate, vec_items, vec_len, sym, refl, ap, ◌∙◌, subst, inl, inr, arith, length-append, length-set, get_or-set_other, get_or-set_same, ltb-false, ltb-true, eqb-true}
+use Rattle.std.proofs.Common.{◌≡◌, ℕ, ◌+◌, ◌*◌, ◌/◌, ◌%◌, ◌<◌, ◌≤◌, Bool, true, false, cond, eqb, ltb, ◌⊎◌, List, [], ◌∷◌, ◌++◌, length, get_or, set, replicate, vec_items, vec_len, Vec, Global, map, sym, refl, ap, ◌∙◌, subst, inl, inr, arith, length-append, length-set, get_or-set_other, get_or-set_same, ltb-false, ltb-true, eqb-true}
+use Rattle.std.proofs.lemmas.List.{length-map}
 use lib.ListN.{length-replicate, get_or-replicate, get_or-eq_default}
 use borrow.Author.Tests.{eqb-false, both_ways}
 use Rattle.device.specs.Lines.{Line, Lines, fresh_lines, applied, first_of, drop_of, seen, stored, pushed_back, fenced}
-use Rattle.device.specs.Does.{Op, Loaded, Stored, Pushed, Fenced}
+use Rattle.device.specs.Does.{Loaded, Stored, Pushed, Fenced}
 use Rattle.device.proofs.Image.{wrote, applied_snoc, applied_parts}
 use Rattle.lines.specs.declared.journal.Store.{Store}
 use Rattle.lines.specs.declared.cached.Cached.{Cached}
-use Rattle.lines.specs.Walks.{of_line, Settling, settling, settle, lost_sees, lost_counts}
+use Rattle.lines.specs.Walks.{lasts_in, sees_in, counts_in, pushed_in, of_line, Settling, settling, settle, lost_sees, lost_counts}
 use Rattle.lines.specs.Caches.{Held, held_in, lines_in, Sound, Shows, Stands, CachedStep, Fails}
+use Rattle.lines.proofs.Parts.{map-replicate}
 use Rattle.lines.proofs.Settles.{applied_at, set_cond, place_eqb, own_snoc, other_snoc, Sized, sized_settle, inside_more, inside_settle, Settled, settled, lost_sees_lem, lost_length, lost_counts_lem, lost_counts_length}
 
 -- ---- from what is held to the memory
@@ -25,8 +27,13 @@ stands_by t n h m size e x =
     let y : Tied (lines_in t) (held_in t) m = subst (λ k. Tied k (held_in t) m) (sym size) (subst (λ g. Tied n g m) (sym e) x) in
     record { sound = y.0; shows = y.1 }
 
-lines_same : (s t : Cached) → length (vec_items t.sees) ≡ length (vec_items s.sees) → lines_in t ≡ lines_in s
-lines_same s t e = let same : vec_len t.sees ≡ vec_len s.sees = omega (arith, e) in ap (λ k. k / 8) same
+-- lists with one part of as many elements are of one length
+pub same_len : {X : Type 0} (f : X → ℕ) (v w : Vec X Global) → length (map f v.items) ≡ length (map f w.items) → vec_len v ≡ vec_len w
+same_len f v w e = omega (arith, v.ok.0, w.ok.0, e, length-map v.items f, length-map w.items f)
+
+lines_same : (s t : Cached) → length (held_in t).sees ≡ length (held_in s).sees → lines_in t ≡ lines_in s
+lines_same s t e =
+    ap (λ k. k / 8) (same_len (λ w. w.sees) t.words s.words e)
 
 -- ---- loads
 
@@ -34,7 +41,7 @@ pub load_gives : (n : ℕ) (h : Held) (m : Lines) (l k : ℕ) → Tied n h m →
 load_gives n h m l k (s, w) hl hk =
     s.sees l k hl hk ∙ sym (ap (λ xs. applied xs (m l).lasts k) (w.since l hl) ∙ applied_at (of_line l h.journal) _ _ k (w.lasts l k hl hk))
 
-pub load_step : (s t : Cached) (l k v : ℕ) → held_in t ≡ held_in s → t.stopped ≡ s.stopped → l < lines_in s → k < 8 → v ≡ get_or (vec_items s.sees) (l * 8 + k) 0
+pub load_step : (s t : Cached) (l k v : ℕ) → held_in t ≡ held_in s → t.stopped ≡ s.stopped → l < lines_in s → k < 8 → v ≡ get_or (held_in s).sees (l * 8 + k) 0
     → CachedStep s (Loaded l k v) t
 load_step s t l k v e same hl hk value =
     let size : lines_in t ≡ lines_in s = lines_same s t (ap (λ h. length h.sees) e) in
@@ -44,19 +51,6 @@ load_step s t l k v e same hl hk value =
         goes = λ z m x. (value ∙ load_gives (lines_in s) (held_in s) m l k (tied_in s m x) hl hk, stands_by t (lines_in s) (held_in s) m size e (tied_in s m x));
         stops = λ z m x. stands_by t (lines_in s) (held_in s) m size e (tied_in s m x);
         still = λ z. same ∙ z;
-      };
-    }
-
--- an operation that is not done: the memory has stopped
-pub stop_step : (s t : Cached) (o : Op) → held_in t ≡ held_in s → t.stopped ≡ true → CachedStep s o t
-stop_step s t o e stop =
-    let size : lines_in t ≡ lines_in s = lines_same s t (ap (λ h. length h.sees) e) in
-    record {
-      size = size;
-      follows = record {
-        goes = λ z m x. absurd (both_ways t.stopped z stop);
-        stops = λ z m x. stands_by t (lines_in s) (held_in s) m size e (tied_in s m x);
-        still = λ z. stop;
       };
     }
 
@@ -149,16 +143,16 @@ module _ (n : ℕ) (h : Held) (m : Lines) (x : Store) (l : ℕ) (here : x.place 
   )
 
 pub store_step : (s t : Cached) (l k v : ℕ) (x : Store) → x.place ≡ l * 8 + k → x.value ≡ v → l < lines_in s → k < 8
-    → vec_items t.lasts ≡ vec_items s.lasts → vec_items t.sees ≡ set (vec_items s.sees) x.place v → vec_items t.journal ≡ vec_items s.journal ++ (x ∷ [])
-    → vec_items t.counts ≡ set (vec_items s.counts) l (get_or (vec_items s.counts) l 0 + 1) → vec_items t.pushed ≡ vec_items s.pushed
+    → (held_in t).lasts ≡ (held_in s).lasts → (held_in t).sees ≡ set (held_in s).sees x.place v → vec_items t.journal ≡ vec_items s.journal ++ (x ∷ [])
+    → (held_in t).counts ≡ set (held_in s).counts l (get_or (held_in s).counts l 0 + 1) → (held_in t).pushed ≡ (held_in s).pushed
     → s.stopped ≡ false → t.stopped ≡ false → CachedStep s (Stored l k v) t
 store_step s t l k v x place value hl hk ls ss js cs ps run run' =
-    let size : lines_in t ≡ lines_in s = lines_same s t (ap length ss ∙ length-set (vec_items s.sees) x.place v) in
+    let size : lines_in t ≡ lines_in s = lines_same s t (ap length ss ∙ length-set (held_in s).sees x.place v) in
     let line : x.place / 8 ≡ l = omega arith in
     let word : x.place % 8 ≡ k = omega arith in
-    let cs' : vec_items t.counts ≡ set (vec_items s.counts) (x.place / 8) (get_or (vec_items s.counts) (x.place / 8) 0 + 1) =
-    cs ∙ ap (λ i. set (vec_items s.counts) i (get_or (vec_items s.counts) i 0 + 1)) (sym line) in
-    let ss' : vec_items t.sees ≡ set (vec_items s.sees) x.place x.value = ss ∙ ap (set (vec_items s.sees) x.place) (sym value) in
+    let cs' : (held_in t).counts ≡ set (held_in s).counts (x.place / 8) (get_or (held_in s).counts (x.place / 8) 0 + 1) =
+    cs ∙ ap (λ i. set (held_in s).counts i (get_or (held_in s).counts i 0 + 1)) (sym line) in
+    let ss' : (held_in t).sees ≡ set (held_in s).sees x.place x.value = ss ∙ ap (set (held_in s).sees x.place) (sym value) in
     let e : held_in t ≡ storing x (held_in s) = λ i. record { lasts = ls i; sees = ss' i; journal = js i; counts = cs' i; pushed = ps i } in
     record {
       size = size;
@@ -228,8 +222,8 @@ module _ (n : ℕ) (h : Held) (m : Lines) (l : ℕ) (hl : l < n) (s : Sound n h)
   )
 
 pub push_step : (s t : Cached) (l : ℕ) → l < lines_in s
-    → vec_items t.lasts ≡ vec_items s.lasts → vec_items t.sees ≡ vec_items s.sees → vec_items t.journal ≡ vec_items s.journal
-    → vec_items t.counts ≡ vec_items s.counts → vec_items t.pushed ≡ set (vec_items s.pushed) l (get_or (vec_items s.counts) l 0)
+    → (held_in t).lasts ≡ (held_in s).lasts → (held_in t).sees ≡ (held_in s).sees → vec_items t.journal ≡ vec_items s.journal
+    → (held_in t).counts ≡ (held_in s).counts → (held_in t).pushed ≡ set (held_in s).pushed l (get_or (held_in s).counts l 0)
     → s.stopped ≡ false → t.stopped ≡ false → CachedStep s (Pushed l) t
 push_step s t l hl ls ss js cs ps run run' =
     let size : lines_in t ≡ lines_in s = lines_same s t (ap length ss) in
@@ -315,9 +309,9 @@ module _ (n : ℕ) (h : Held) (s : Sound n h) where
   )
 
 pub fence_step : (s t : Cached)
-    → settling (vec_items t.lasts) (vec_items t.counts) (vec_items t.pushed) (vec_items t.journal)
-    ≡ settle (vec_items s.journal) (settling (vec_items s.lasts) (vec_items s.counts) (vec_items s.pushed) [])
-    → vec_items t.sees ≡ vec_items s.sees → s.stopped ≡ false → t.stopped ≡ false → CachedStep s Fenced t
+    → settling (held_in t).lasts (held_in t).counts (held_in t).pushed (vec_items t.journal)
+    ≡ settle (vec_items s.journal) (settling (held_in s).lasts (held_in s).counts (held_in s).pushed [])
+    → (held_in t).sees ≡ (held_in s).sees → s.stopped ≡ false → t.stopped ≡ false → CachedStep s Fenced t
 fence_step s t walk ss run run' =
     let size : lines_in t ≡ lines_in s = lines_same s t (ap length ss) in
     let e : held_in t ≡ fencing (held_in s) = λ i. record { lasts = (walk i).lasts; sees = ss i; journal = (walk i).kept; counts = (walk i).counts; pushed = (walk i).pushed } in
@@ -393,19 +387,19 @@ fail_held n h ps m (s, w) len low =
     )
 
 pub fail_fails : (s t : Cached) (ps ls cs qs : List ℕ) (js : List Store)
-    → length ps ≡ length (vec_items s.pushed)
-    → (((l : ℕ) → get_or (vec_items s.pushed) l 0 ≤ get_or (vec_items s.counts) l 0) → (l : ℕ) → get_or ps l 0 ≤ get_or (vec_items s.counts) l 0)
-    → settling ls cs qs js ≡ settle (vec_items s.journal) (settling (vec_items s.lasts) (vec_items s.counts) ps [])
-    → vec_items t.lasts ≡ ls → vec_items t.sees ≡ lost_sees js ls (vec_items s.sees) → vec_items t.journal ≡ [] → vec_items t.counts ≡ lost_counts js cs → vec_items t.pushed ≡ qs
+    → length ps ≡ length (held_in s).pushed
+    → (((l : ℕ) → get_or (held_in s).pushed l 0 ≤ get_or (held_in s).counts l 0) → (l : ℕ) → get_or ps l 0 ≤ get_or (held_in s).counts l 0)
+    → settling ls cs qs js ≡ settle (vec_items s.journal) (settling (held_in s).lasts (held_in s).counts ps [])
+    → (held_in t).lasts ≡ ls → (held_in t).sees ≡ lost_sees js ls (held_in s).sees → vec_items t.journal ≡ [] → (held_in t).counts ≡ lost_counts js cs → (held_in t).pushed ≡ qs
     → Fails s t × (lines_in t ≡ lines_in s)
 unfolding back
 fail_fails s t ps ls cs qs js len low walk tl ts tj tc tp =
-    let size : lines_in t ≡ lines_in s = lines_same s t (ap length ts ∙ lost_length js ls (vec_items s.sees)) in
-    let f : Settling = settle (vec_items s.journal) (settling (vec_items s.lasts) (vec_items s.counts) ps []) in
-    let tl' : vec_items t.lasts ≡ f.lasts = tl ∙ ap (λ z. z.lasts) walk in
-    let ts' : vec_items t.sees ≡ lost_sees f.kept f.lasts (vec_items s.sees) = ts ∙ ap (λ z. lost_sees z.kept z.lasts (vec_items s.sees)) walk in
-    let tc' : vec_items t.counts ≡ lost_counts f.kept f.counts = tc ∙ ap (λ z. lost_counts z.kept z.counts) walk in
-    let tp' : vec_items t.pushed ≡ f.pushed = tp ∙ ap (λ z. z.pushed) walk in
+    let size : lines_in t ≡ lines_in s = lines_same s t (ap length ts ∙ lost_length js ls (held_in s).sees) in
+    let f : Settling = settle (vec_items s.journal) (settling (held_in s).lasts (held_in s).counts ps []) in
+    let tl' : (held_in t).lasts ≡ f.lasts = tl ∙ ap (λ z. z.lasts) walk in
+    let ts' : (held_in t).sees ≡ lost_sees f.kept f.lasts (held_in s).sees = ts ∙ ap (λ z. lost_sees z.kept z.lasts (held_in s).sees) walk in
+    let tc' : (held_in t).counts ≡ lost_counts f.kept f.counts = tc ∙ ap (λ z. lost_counts z.kept z.counts) walk in
+    let tp' : (held_in t).pushed ≡ f.pushed = tp ∙ ap (λ z. z.pushed) walk in
     let e : held_in t ≡ losing (fencing (chosen ps (held_in s))) = λ i. record { lasts = tl' i; sees = ts' i; journal = tj i; counts = tc' i; pushed = tp' i } in (
       λ m x. (
         back ps m,
@@ -437,23 +431,16 @@ fresh_held n = (
   },
 )
 
-pub fresh_stands : (s : Cached) (n : ℕ) → vec_items s.lasts ≡ replicate (n * 8) 0 → vec_items s.sees ≡ replicate (n * 8) 0 → vec_items s.journal ≡ []
-    → vec_items s.counts ≡ replicate n 0 → vec_items s.pushed ≡ replicate n 0 → Stands s fresh_lines × (lines_in s ≡ n)
-fresh_stands s n ls ss js cs ps =
-    let len : length (vec_items s.sees) ≡ n * 8 = ap length ss ∙ length-replicate (n * 8) 0 in
-    let size : lines_in s ≡ n = omega (arith, len) in
+pub fresh_stands : (s : Cached) (n : ℕ) → vec_items s.words ≡ replicate (n * 8) (record { lasts = 0; sees = 0 }) → vec_items s.lines ≡ replicate n (record { count = 0; pushed = 0 })
+    → vec_items s.journal ≡ [] → Stands s fresh_lines × (lines_in s ≡ n)
+fresh_stands s n ws xs js =
     let turn : n * 8 ≡ 8 * n = omega arith in
-    let ls' : vec_items s.lasts ≡ replicate (8 * n) 0 = ls ∙ ap (λ k. replicate {A = ℕ} k 0) turn in
-    let ss' : vec_items s.sees ≡ replicate (8 * n) 0 = ss ∙ ap (λ k. replicate {A = ℕ} k 0) turn in
+    let ls : (held_in s).lasts ≡ replicate (8 * n) 0 = ap lasts_in ws ∙ map-replicate (λ w. w.lasts) (n * 8) _ ∙ ap (λ k. replicate {A = ℕ} k 0) turn in
+    let ss : (held_in s).sees ≡ replicate (8 * n) 0 = ap sees_in ws ∙ map-replicate (λ w. w.sees) (n * 8) _ ∙ ap (λ k. replicate {A = ℕ} k 0) turn in
+    let cs : (held_in s).counts ≡ replicate n 0 = ap counts_in xs ∙ map-replicate (λ x. x.count) n _ in
+    let ps : (held_in s).pushed ≡ replicate n 0 = ap pushed_in xs ∙ map-replicate (λ x. x.pushed) n _ in
+    let len : length (held_in s).sees ≡ 8 * n = ap length ss ∙ length-replicate (8 * n) 0 in
+    let size : lines_in s ≡ n = omega (arith, len, length-map (vec_items s.words) (λ w. w.sees)) in
     let e : held_in s ≡ record { lasts = replicate (8 * n) 0; sees = replicate (8 * n) 0; journal = []; counts = replicate n 0; pushed = replicate n 0 } =
-    λ i. record { lasts = ls' i; sees = ss' i; journal = js i; counts = cs i; pushed = ps i } in
+    λ i. record { lasts = ls i; sees = ss i; journal = js i; counts = cs i; pushed = ps i } in
     (stands_by s n _ fresh_lines size e (fresh_held n), size)
-
--- ---- copies
-
-pub copy_stands : (s t : Cached) → vec_items t.lasts ≡ vec_items s.lasts → vec_items t.sees ≡ vec_items s.sees → vec_items t.journal ≡ vec_items s.journal
-    → vec_items t.counts ≡ vec_items s.counts → vec_items t.pushed ≡ vec_items s.pushed → ((m : Lines) → Stands s m → Stands t m) × (lines_in t ≡ lines_in s)
-copy_stands s t ls ss js cs ps =
-    let size : lines_in t ≡ lines_in s = lines_same s t (ap length ss) in
-    let e : held_in t ≡ held_in s = λ i. record { lasts = ls i; sees = ss i; journal = js i; counts = cs i; pushed = ps i } in
-    (λ m x. stands_by t (lines_in s) (held_in s) m size e (tied_in s m x), size)

@@ -1,3 +1,4 @@
-mod Turns
-mod Settles
-mod Caches
+pub mod Parts
+pub mod Settles
+pub mod Turns
+pub mod Caches

@@ -86,6 +86,15 @@ unfolding settle
 sized_settle n [] z s = s
 sized_settle n (x ∷ xs) z s = sized_settle n xs _ (sized_turn n x z (ltb 0 (get_or z.pushed (x.place / 8) 0)) s)
 
+pub settle_counts_length : (xs : List Store) (z : Settling) → length (settle xs z).counts ≡ length z.counts
+unfolding settle
+settle_counts_length [] z = refl
+settle_counts_length (x ∷ xs) z = settle_counts_length xs _ ∙ go (ltb 0 (get_or z.pushed (x.place / 8) 0))
+  where
+    go : (b : Bool) → length (cond b (lasting x z) (staying x z)).counts ≡ length z.counts
+    go true = length-set z.counts (x.place / 8) (get_or z.counts (x.place / 8) 0 - 1)
+    go false = refl
+
 inside_snoc : (n : ℕ) (xs : List Store) (x : Store) → Inside n xs → x.place < 8 * n → Inside n (xs ++ (x ∷ []))
 inside_snoc n [] x h p = (p, tt)
 inside_snoc n (y ∷ ys) x h p = (h.0, inside_snoc n ys x h.1 p)

@@ -1,16 +1,11 @@
 -- One turn of each walk along the journal.
 -- Assumes nothing.
-use Rattle.std.proofs.Common.{◌≡◌, ℕ, zero, suc, ◌+◌, ◌-◌, ◌/◌, ◌<◌, ◌≤◌, Bool, true, false, cond, eqb, ltb, List, [], ◌∷◌, ◌++◌, length, get_or, take, drop, set, sym, refl, ap, ◌∙◌, subst, add-one, arith, drop-cons, get_or-set_other, get_or-set_same, take-suc-set, drop-set-lt, ltb-false, ltb-true, eqb-true}
+use Rattle.std.proofs.Common.{◌≡◌, ℕ, suc, ◌+◌, ◌-◌, ◌/◌, ◌<◌, ◌≤◌, Bool, true, false, cond, eqb, ltb, List, [], ◌∷◌, ◌++◌, length, get_or, take, drop, set, sym, refl, ap, ◌∙◌, subst, add-one, arith, drop-cons, get_or-set_other, get_or-set_same, take-suc-set, drop-set-lt, ltb-false, ltb-true, eqb-true}
+use Rattle.std.proofs.lemmas.List.{drop_all}
 use lib.Seq.{set_out}
 use borrow.Author.Tests.{eqb-false}
 use Rattle.lines.specs.declared.journal.Store.{Store}
 use Rattle.lines.specs.Walks.{Settling, settling, lasting, staying, settle, lost_sees, lost_counts}
-
-pub drop_past : {A : Type 0} (i : ℕ) (xs : List A) → length xs ≤ i → drop i xs ≡ []
-drop_past zero [] h = refl
-drop_past (suc i) [] h = refl
-drop_past zero (x ∷ xs) h = absurd (omega arith)
-drop_past (suc i) (x ∷ xs) h = drop_past i xs (omega arith)
 
 pub next_of : {A : Type 0} (xs : List A) (i : ℕ) (x : A) → i < length xs → x ≡ get_or xs i x → drop i xs ≡ x ∷ drop (i + 1) xs
 next_of xs i x h e = drop-cons xs i x h ∙ ap (λ y. y ∷ drop (suc i) xs) (sym e) ∙ ap (λ j. x ∷ drop j xs) (sym (add-one i))
@@ -65,15 +60,15 @@ module _ (xs : List Store) (i : ℕ) (x : Store) (h : i < length xs) (e : x ≡ 
 -- a walk that has come to the end
 pub settle_end : (xs : List Store) (i : ℕ) (z : Settling) → length xs ≤ i → settle (drop i xs) z ≡ z
 unfolding settle
-settle_end xs i z h = ap (λ ys. settle ys z) (drop_past i xs h)
+settle_end xs i z h = ap (λ ys. settle ys z) (drop_all i xs h)
 
 pub sees_end : (xs : List Store) (i : ℕ) (ls ss : List ℕ) → length xs ≤ i → lost_sees (drop i xs) ls ss ≡ ss
 unfolding lost_sees
-sees_end xs i ls ss h = ap (λ ys. lost_sees ys ls ss) (drop_past i xs h)
+sees_end xs i ls ss h = ap (λ ys. lost_sees ys ls ss) (drop_all i xs h)
 
 pub counts_end : (xs : List Store) (i : ℕ) (cs : List ℕ) → length xs ≤ i → lost_counts (drop i xs) cs ≡ cs
 unfolding lost_counts
-counts_end xs i cs h = ap (λ ys. lost_counts ys cs) (drop_past i xs h)
+counts_end xs i cs h = ap (λ ys. lost_counts ys cs) (drop_all i xs h)
 
 -- the same walk, by other names
 pub settle_moved : (i k k' : ℕ) (xs ys : List Store) (ls cs ps : List ℕ) → k ≡ k' → xs ≡ ys

@@ -6,7 +6,7 @@ use Rattle.device.specs.Does.{Op}
 use Rattle.device.specs.Ties.{Follows}
 use Rattle.lines.specs.declared.journal.Store.{Store}
 use Rattle.lines.specs.declared.cached.Cached.{Cached}
-use Rattle.lines.specs.Walks.{of_line}
+use Rattle.lines.specs.Walks.{lasts_in, sees_in, counts_in, pushed_in, of_line}
 
 -- lasts: the words that have reached the memory; sees: the words that a load gives; journal: the stores since, oldest first;
 -- counts: for each line, how many stores the journal has; pushed: how many of these are pushed
@@ -19,15 +19,15 @@ pub record Held : Type 0 where
 
 abbrev pub held_in : Cached → Held
 held_in s = record {
-  lasts = vec_items s.lasts;
-  sees = vec_items s.sees;
+  lasts = lasts_in (vec_items s.words);
+  sees = sees_in (vec_items s.words);
   journal = vec_items s.journal;
-  counts = vec_items s.counts;
-  pushed = vec_items s.pushed;
+  counts = counts_in (vec_items s.lines);
+  pushed = pushed_in (vec_items s.lines);
 }
 
 abbrev pub lines_in : Cached → ℕ
-lines_in s = vec_len s.sees / 8
+lines_in s = vec_len s.words / 8
 
 -- each store is to a word of the n lines
 abbrev pub Inside : ℕ → List Store → Type 0

@@ -1,7 +1,23 @@
 -- What the simulated memory does with its journal, as functions on lists.
 -- Assumes nothing.
-use Rattle.std.specs.Prelude.{ℕ, ◌-◌, ◌/◌, ◌%◌, cond, List, [], ◌∷◌, ◌++◌, ◌==◌, nat_lt, slice_index, slice_set}
+use Rattle.std.specs.Prelude.{ℕ, ◌-◌, ◌/◌, ◌%◌, cond, List, [], ◌∷◌, ◌++◌, ◌==◌, nat_lt, slice_index, slice_set, map}
 use Rattle.lines.specs.declared.journal.Store.{Store}
+use Rattle.lines.specs.declared.journal.Word.{Word}
+use Rattle.lines.specs.declared.journal.LineStores.{LineStores}
+
+-- the words that have reached the memory, and the words as they were stored last
+abbrev pub lasts_in : List Word → List ℕ
+lasts_in ws = map (λ w. w.lasts) ws
+
+abbrev pub sees_in : List Word → List ℕ
+sees_in ws = map (λ w. w.sees) ws
+
+-- for each line, how many stores the journal has, and how many of them are pushed
+abbrev pub counts_in : List LineStores → List ℕ
+counts_in ls = map (λ x. x.count) ls
+
+abbrev pub pushed_in : List LineStores → List ℕ
+pushed_in ls = map (λ x. x.pushed) ls
 
 -- the stores to one line, oldest first
 unfoldable pub of_line : ℕ → List Store → List (record { word : ℕ; value : ℕ })

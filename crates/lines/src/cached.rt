@@ -1,11 +1,10 @@
 // A simulated memory, for tests and rehearsals: it holds of each line what has reached the memory, the stores since, and how many of them
 // are pushed, so that a power failure can be tried at any moment.
-ghost use Rattle.std.specs.Prelude.{◌≡◌, false, IfOk};
+ghost use Rattle.std.specs.Prelude.{◌≡◌, ◌*◌, false, IfOk, vec_len};
 ghost use Rattle.device.specs.Lines.{Lines, fresh_lines};
-ghost use Rattle.lines.specs.Caches.{lines_in, Stands, CachedStep, Fails};
 ghost use Rattle.std.proofs.Common.{rules};
 
-use crate::journal::{Store, choose_pushed, lose_all, number_at, set_number, settle_all};
+use crate::journal::{LineStores, Store, Word, choose_pushed, lose_all, settle_all};
 use device::{Coherent, Device};
 use std::alloc::{AllocError, Global};
 
@@ -13,46 +12,43 @@ use std::alloc::{AllocError, Global};
 // there are.
 #[derive(Drop)]
 pub struct Cached {
-    // The words that have reached the memory, eight for each line.
-    lasts: Vec<u64>,
-    // The words as they were stored last.
-    sees: Vec<u64>,
+    // Eight for each line.
+    words: Vec<Word>,
+    lines: Vec<LineStores>,
     // The stores that are not known to have reached the memory, oldest first.
     journal: Vec<Store>,
-    // For each line, how many stores the journal has.
-    counts: Vec<u64>,
-    // For each line, how many of these are pushed.
-    pushed: Vec<u64>,
     // There was no memory for the journal, so nothing more is done.
     stopped: bool,
+    ghost eight: { vec_len words ≡ 8 * vec_len lines },
 }
 
 impl Cached {
+    ghost use Rattle.lines.specs.Caches.{lines_in, Stands, Fails};
+
     // So many lines, of which all words are 0.
     pub fn new(heap: Global, lines: u32) -> Result<Cached, AllocError>
         ensures { IfOk result (λ s. Stands s fresh_lines × (lines_in s ≡ lines) × (s.stopped ≡ false)) }
     {
         let count = lines as usize;
         Ok(Cached {
-            lasts: vec![in heap; 0u64; count * 8]?,
-            sees: vec![in heap; 0u64; count * 8]?,
+            words: vec![in heap; Word { lasts: 0, sees: 0 }; count * 8]?,
+            lines: vec![in heap; LineStores {
+                count: 0,
+                pushed: 0
+            }; count]?,
             journal: Vec::new(heap),
-            counts: vec![in heap; 0u64; count]?,
-            pushed: vec![in heap; 0u64; count]?,
             stopped: false,
         })
     }
 
     // Another memory that stands for the same lines, so that several failures can be tried from one moment.
-    pub fn copy(&self, heap: Global) -> Result<Cached, AllocError>
+    pub fn copy(&self) -> Result<Cached, AllocError>
         ensures { IfOk result (λ t. ((m : Lines) → Stands self.now m → Stands t m) × (lines_in t ≡ lines_in self.now) × (t.stopped ≡ self.now.stopped)) }
     {
         Ok(Cached {
-            lasts: Vec::from_slice(heap, self.lasts.as_slice())?,
-            sees: Vec::from_slice(heap, self.sees.as_slice())?,
-            journal: Vec::from_slice(heap, self.journal.as_slice())?,
-            counts: Vec::from_slice(heap, self.counts.as_slice())?,
-            pushed: Vec::from_slice(heap, self.pushed.as_slice())?,
+            words: self.words.clone()?,
+            lines: self.lines.clone()?,
+            journal: self.journal.clone()?,
             stopped: self.stopped,
         })
     }
@@ -70,24 +66,16 @@ impl Cached {
         ensures size { lines_in self.new ≡ lines_in self.old }
         ensures goes { self.new.stopped ≡ false }
     {
-        choose_pushed(&self.counts, &mut self.pushed, &self.journal, seed);
-        settle_all(
-            &mut self.lasts,
-            &mut self.counts,
-            &mut self.pushed,
-            &mut self.journal,
-        );
-        lose_all(
-            &self.lasts,
-            &mut self.sees,
-            &mut self.counts,
-            &mut self.journal,
-        );
+        choose_pushed(&mut self.lines, &self.journal, seed);
+        settle_all(&mut self.words, &mut self.lines, &mut self.journal);
+        lose_all(&mut self.words, &mut self.lines, &mut self.journal);
         self.stopped = false;
     }
 }
 
 impl Device for Cached {
+    ghost use Rattle.lines.specs.Caches.{lines_in, CachedStep};
+
     ghost step = { CachedStep };
 
     ghost size = { lines_in };
@@ -95,11 +83,11 @@ impl Device for Cached {
     ghost stays = { Prim.search rules };
 
     fn lines(&self) -> u64 {
-        (self.sees.len() / 8) as u64
+        (self.words.len() / 8) as u64
     }
 
     fn load(&mut self, line: u64, word: u64) -> u64 {
-        number_at(&self.sees, (line * 8 + word) as usize)
+        self.words[(line * 8 + word) as usize].sees
     }
 
     fn store(&mut self, line: u64, word: u64, value: u64) {
@@ -107,7 +95,7 @@ impl Device for Cached {
             return;
         }
         let place = (line * 8 + word) as usize;
-        let Some(count) = number_at(&self.counts, line as usize).checked_add(1) else {
+        let Some(count) = self.lines[line as usize].count.checked_add(1) else {
             self.stopped = true;
             return;
         };
@@ -115,32 +103,29 @@ impl Device for Cached {
             self.stopped = true;
             return;
         }
-        set_number(&mut self.sees, place, value);
-        set_number(&mut self.counts, line as usize, count);
+        self.words[place].sees = value;
+        self.lines[line as usize].count = count;
     }
 
     fn push(&mut self, line: u64) {
         if self.stopped {
             return;
         }
-        let count = number_at(&self.counts, line as usize);
-        set_number(&mut self.pushed, line as usize, count);
+        let stores = &mut self.lines[line as usize];
+        stores.pushed = stores.count;
     }
 
     fn fence(&mut self) {
         if self.stopped {
             return;
         }
-        settle_all(
-            &mut self.lasts,
-            &mut self.counts,
-            &mut self.pushed,
-            &mut self.journal,
-        );
+        settle_all(&mut self.words, &mut self.lines, &mut self.journal);
     }
 }
 
 impl Coherent for Cached {
+    ghost use Rattle.lines.specs.Caches.{Stands};
+
     ghost stands = { Stands };
 
     ghost stopped = { λ s. s.stopped };

@@ -1,7 +1,7 @@
 // A memory that stops after so many operations, as if the power had failed, so that any work can be cut anywhere.
-ghost use Rattle.std.specs.Prelude.{◌≡◌, ℕ, ◌+◌, Bool, true, false};
+ghost use Rattle.std.specs.Prelude.{◌≡◌, ℕ, ◌+◌, true, false, Some, None};
 ghost use Rattle.device.specs.Ties.{Ties};
-ghost use Rattle.lines.specs.Fuses.{FuseStep, fuse_stopped, fuse_stands};
+ghost use Rattle.lines.specs.Fuses.{left_in, is_cut, Burns, FuseStep, fuse_stopped, fuse_stands};
 ghost use Rattle.std.proofs.Common.{rules};
 ghost use Rattle.lines.specs.FusesLemmas.{fuse_coheres};
 
@@ -10,54 +10,43 @@ use device::{Coherent, Device, work_ties};
 #[derive(Drop)]
 pub struct Fuse<D> {
     pub memory: D,
-    // How many operations it will still do.
-    left: u64,
-    // An operation was asked for that it did not do.
-    cut: bool,
+    // How many operations it will still do, or none once it has not done one that was asked for.
+    left: Option<u64>,
 }
 
 impl<D> Fuse<D> {
     pub fn new(memory: D, operations: u64) -> Fuse<D>
-        ensures { (result.memory ≡ memory) × (result.left ≡ operations) × (result.cut ≡ false) }
+        ensures { (result.memory ≡ memory) × (left_in result ≡ Some operations) }
     {
         Fuse {
             memory,
-            left: operations,
-            cut: false,
+            left: Some(operations),
         }
     }
 
     // Whether some operation was not done.
     pub fn is_cut(&self) -> bool
-        ensures { result ≡ self.now.cut }
+        ensures { result ≡ is_cut self.now }
     {
-        self.cut
+        self.left.is_none()
     }
 
     // The memory as it was when the power failed.
     pub fn into_memory(self) -> D
         ensures { result ≡ self.memory }
     {
-        let Fuse {
-            memory,
-            left: _,
-            cut: _,
-        } = self;
+        let Fuse { memory, left: _ } = self;
         memory
     }
 
     // Takes one operation off, and says whether it may be done.
     fn burns(&mut self) -> bool
-        ensures goes { result ≡ true → (self.old.cut ≡ false) × (self.new.cut ≡ false) × (self.old.left ≡ self.new.left + 1) }
-        ensures cuts { result ≡ false → (self.new.cut ≡ true) × (self.old.cut ≡ false → self.old.left ≡ 0) }
+        ensures goes { result ≡ true → Burns (left_in self.old) (left_in self.new) }
+        ensures cuts { result ≡ false → (left_in self.new ≡ None) × ((n : ℕ) → left_in self.old ≡ Some n → n ≡ 0) }
         ensures memory { self.new.memory ≡ self.old.memory }
     {
-        if self.cut || self.left == 0 {
-            self.cut = true;
-            return false;
-        }
-        self.left -= 1;
-        true
+        self.left = self.left.and_then(|left| left.checked_sub(1));
+        self.left.is_some()
     }
 }
 

@@ -1,5 +1,5 @@
 // A cell that is cut off at every operation of a put.
-use anyhow::anyhow;
+use anyhow::{bail, ensure};
 use cell::{get, put, put_and_fail};
 use device::Device;
 use lines::cached::Cached;
@@ -11,26 +11,26 @@ const NEW: [u64; 16] = [22; 16];
 // A put makes 23 operations: it loads and stores the root word, stores 16 words, pushes three lines and sets two fences.
 const OPERATIONS: u64 = 23;
 
-// Whether what is left is the old words or the new ones, or neither.
-fn tried(
-    rt: &HostRuntime,
-    before: &Cached,
-    operations: u64,
-    seed: u64,
-) -> anyhow::Result<Option<bool>> {
-    let memory = before.copy(rt.alloc())?;
-    if memory.lines() < 5 {
-        return Err(anyhow!("the memory is too small"));
-    }
+// What a put that was cut off has left in the cell.
+#[derive(Clone, Copy)]
+enum Left {
+    Old,
+    New,
+    Neither,
+}
+
+fn tried(before: &Cached, operations: u64, seed: u64) -> anyhow::Result<Left> {
+    let memory = before.copy()?;
+    ensure!(memory.lines() >= 5, "the memory is too small");
     let mut left = put_and_fail(memory, &NEW, operations, seed);
     let held = get(&mut left);
-    if held == OLD {
-        Ok(Some(false))
+    Ok(if held == OLD {
+        Left::Old
     } else if held == NEW {
-        Ok(Some(true))
+        Left::New
     } else {
-        Ok(None)
-    }
+        Left::Neither
+    })
 }
 
 pub fn every_cut(rt: &HostRuntime) -> anyhow::Result<()> {
@@ -38,18 +38,19 @@ pub fn every_cut(rt: &HostRuntime) -> anyhow::Result<()> {
     put(&mut before, &OLD);
     let mut olds = 0u64;
     let mut news = 0u64;
-    for operations in 0..OPERATIONS + 1 {
+    for operations in 0..=OPERATIONS {
         for seed in 0..100u64 {
-            match tried(rt, &before, operations, seed)? {
-                Some(false) if operations < OPERATIONS => olds = olds.saturating_add(1),
-                Some(true) => news = news.saturating_add(1),
-                _ => return Err(anyhow!("the cell holds neither the old words nor the new ones")),
+            match tried(&before, operations, seed)? {
+                Left::Old if operations < OPERATIONS => olds = olds.saturating_add(1),
+                Left::New => news = news.saturating_add(1),
+                _ => bail!("the cell holds neither the old words nor the new ones"),
             }
         }
     }
-    if olds == 0 || news < 100 {
-        return Err(anyhow!("the cell never held the old words, or the new ones"));
-    }
+    ensure!(
+        olds > 0 && news >= 100,
+        "the cell never held the old words, or the new ones"
+    );
     rt.println("a put that is cut off at any operation leaves the old words or the new ones")?;
     Ok(())
 }

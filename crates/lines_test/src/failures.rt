@@ -1,6 +1,6 @@
 // What a power failure leaves of the simulated memory.
 use crate::steps::{fill, filled, load, push, store};
-use anyhow::anyhow;
+use anyhow::{Context, bail, ensure};
 use device::Device;
 use lines::cached::Cached;
 
@@ -15,24 +15,20 @@ pub fn prefixes(rt: &HostRuntime) -> anyhow::Result<()> {
         fill(&mut memory, 3, 0, 8);
         fill(&mut memory, 40, 0, 3);
         memory.fail(seed);
-        let Some(first) = filled(&mut memory, 3) else {
-            return Err(anyhow!("stores of line 3 are missing before others"));
-        };
-        let Some(second) = filled(&mut memory, 40) else {
-            return Err(anyhow!("stores of line 40 are missing before others"));
-        };
-        if first >= 9 || second >= 4 {
-            return Err(anyhow!("there are more stores than were made"));
-        }
+        let first = filled(&mut memory, 3).context("stores of line 3 are missing before others")?;
+        let second = filled(&mut memory, 40).context(
+            "stores of line 40 are missing before others",
+        )?;
+        ensure!(
+            first < 9 && second < 4,
+            "there are more stores than were made"
+        );
         came[first][second] = true;
     }
-    for row in came {
-        for met in row {
-            if !met {
-                return Err(anyhow!("some number of stores never came up"));
-            }
-        }
-    }
+    ensure!(
+        came.iter().flatten().all(|met| *met),
+        "some number of stores never came up"
+    );
     rt.println("of each line some first part of its stores is left, and every such part came up")?;
     Ok(())
 }
@@ -47,21 +43,24 @@ pub fn fenced_last(rt: &HostRuntime) -> anyhow::Result<()> {
         fill(&mut memory, 5, 4, 8);
         store(&mut memory, 6, 0, 7);
         memory.fence();
-        if load(&mut memory, 5, 7) != 1 || load(&mut memory, 6, 0) != 7 {
-            return Err(anyhow!("a fence changed what is seen"));
-        }
+        ensure!(
+            load(&mut memory, 5, 7) == 1 && load(&mut memory, 6, 0) == 7,
+            "a fence changed what is seen"
+        );
         memory.fail(seed);
         match filled(&mut memory, 5) {
             Some(count) if count < 9 => came[count] = true,
-            _ => return Err(anyhow!("stores of line 5 are missing before others")),
+            _ => bail!("stores of line 5 are missing before others"),
         }
     }
-    if came[0] || came[1] || came[2] || came[3] {
-        return Err(anyhow!("a store was lost that was pushed and fenced"));
-    }
-    if !(came[4] && came[5] && came[6] && came[7] && came[8]) {
-        return Err(anyhow!("some number of stores never came up"));
-    }
+    ensure!(
+        !came[..4].contains(&true),
+        "a store was lost that was pushed and fenced"
+    );
+    ensure!(
+        !came[4..].contains(&false),
+        "some number of stores never came up"
+    );
     rt.println("what was pushed and fenced is left in any case")?;
     Ok(())
 }
@@ -77,9 +76,10 @@ pub fn large(rt: &HostRuntime) -> anyhow::Result<()> {
         memory.fail(i);
     }
     for i in 0..10_000u64 {
-        if load(&mut memory, i * 97, i % 8) != i {
-            return Err(anyhow!("a word is not what was stored"));
-        }
+        ensure!(
+            load(&mut memory, i * 97, i % 8) == i,
+            "a word is not what was stored"
+        );
     }
     rt.println("a million lines, ten thousand fences and as many failures: each word is there")?;
     Ok(())

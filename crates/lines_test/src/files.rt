@@ -1,6 +1,6 @@
 // The memory in a file, in a folder of its own.
 use crate::steps::{load, push, store};
-use anyhow::anyhow;
+use anyhow::{bail, ensure};
 use device::Device;
 use file_memory::FileMemory;
 use file_memory::open::{OpenError, open};
@@ -55,19 +55,11 @@ impl OpenFile for Faulty {
     }
 }
 
-fn check(holds: bool, what: &str) -> anyhow::Result<()> {
-    if holds {
-        Ok(())
-    } else {
-        Err(anyhow!("{what}"))
-    }
-}
-
 // The file is made, and a few words are written.
 fn written(rt: &HostRuntime, path: &str) -> anyhow::Result<()> {
     let mut memory = open(rt, rt.alloc(), path)?;
-    check(memory.lines() == 32_768, "a new file has the fewest lines")?;
-    check(load(&mut memory, 0, 0) == 0, "a new file has zeros")?;
+    ensure!(memory.lines() == 32_768, "a new file has the fewest lines");
+    ensure!(load(&mut memory, 0, 0) == 0, "a new file has zeros");
     store(&mut memory, 7, 3, 0x0102_0304_0506_0708);
     store(&mut memory, 8, 0, 8);
     store(&mut memory, 32_767, 7, 5);
@@ -76,43 +68,44 @@ fn written(rt: &HostRuntime, path: &str) -> anyhow::Result<()> {
     push(&mut memory, 8);
     push(&mut memory, 32_767);
     memory.fence();
-    check(
+    ensure!(
         memory.trouble().is_none(),
-        "there was trouble with the file",
-    )
+        "there was trouble with the file"
+    );
+    Ok(())
 }
 
 // It is opened again: what was pushed and fenced is there.
 fn read_again(rt: &HostRuntime, path: &str) -> anyhow::Result<()> {
     let mut memory = open(rt, rt.alloc(), path)?;
-    check(
+    ensure!(
         load(&mut memory, 7, 3) == 0x0102_0304_0506_0708,
-        "a word of line 7 is lost",
-    )?;
-    check(load(&mut memory, 8, 0) == 8, "a word of line 8 is lost")?;
-    check(
+        "a word of line 7 is lost"
+    );
+    ensure!(load(&mut memory, 8, 0) == 8, "a word of line 8 is lost");
+    ensure!(
         load(&mut memory, 32_767, 7) == 5,
-        "a word of the last line is lost",
-    )?;
-    check(
+        "a word of the last line is lost"
+    );
+    ensure!(
         load(&mut memory, 9, 0) == 0,
-        "a word was written with no push",
-    )?;
+        "a word was written with no push"
+    );
     rt.println("written, closed and opened again: the same words")?;
     Ok(())
 }
 
 fn high_first(rt: &HostRuntime, path: &str) -> anyhow::Result<()> {
     let bytes = fs::read(rt, path)?;
-    check(bytes.len() == 2_097_152, "the file has another length")?;
-    check(
+    ensure!(bytes.len() == 2_097_152, "the file has another length");
+    ensure!(
         bytes.get(472).copied() == Some(1),
-        "the high byte does not come first",
-    )?;
-    check(
+        "the high byte does not come first"
+    );
+    ensure!(
         bytes.get(479).copied() == Some(8),
-        "the low byte does not come last",
-    )?;
+        "the low byte does not come last"
+    );
     rt.println("in the file the high byte comes first")?;
     Ok(())
 }
@@ -128,19 +121,20 @@ fn refused(rt: &HostRuntime, path: &str, length: u64) -> anyhow::Result<()> {
         file.set_len(length)?;
     }
     match open(rt, rt.alloc(), path) {
-        Ok(_) => return Err(anyhow!("a file of a wrong length was opened")),
+        Ok(_) => bail!("a file of a wrong length was opened"),
         Err(e) => rt.println(e)?,
     }
-    check(
+    ensure!(
         fs::metadata(rt, path)?.len() == length,
-        "the file was changed",
-    )
+        "the file was changed"
+    );
+    Ok(())
 }
 
 fn not_opened(rt: &HostRuntime, path: &str, what: &str) -> anyhow::Result<()> {
     match open(rt, rt.alloc(), path) {
         Err(OpenError::NotOpened(_)) => rt.println(what)?,
-        _ => return Err(anyhow!("a file was opened that cannot be written")),
+        _ => bail!("a file was opened that cannot be written"),
     }
     Ok(())
 }
@@ -152,21 +146,21 @@ fn broken(rt: &HostRuntime) -> anyhow::Result<()> {
     store(&mut memory, 1, 0, 1);
     push(&mut memory, 1);
     push(&mut memory, 2);
-    check(memory.trouble().is_none(), "trouble came too soon")?;
+    ensure!(memory.trouble().is_none(), "trouble came too soon");
     push(&mut memory, 3);
-    check(
+    ensure!(
         memory.trouble().is_some(),
-        "an error of a write is forgotten",
-    )?;
+        "an error of a write is forgotten"
+    );
     store(&mut memory, 1, 0, 2);
-    check(
+    ensure!(
         load(&mut memory, 1, 0) == 1,
-        "something was stored after an error",
-    )?;
+        "something was stored after an error"
+    );
     let more = vec![in rt.alloc(); 0u64; 64]?;
     let mut other = FileMemory::over(Faulty { left: 0 }, more);
     other.fence();
-    check(other.trouble().is_some(), "an error of a sync is forgotten")?;
+    ensure!(other.trouble().is_some(), "an error of a sync is forgotten");
     rt.println("an error of the file is kept, and nothing is done after it")?;
     Ok(())
 }
@@ -191,7 +185,7 @@ fn in_folder(rt: &HostRuntime, folder: &str) -> anyhow::Result<()> {
         Err(OpenError::NotMade(_)) => rt.println(
             "a file in a folder that is not there is not made",
         )?,
-        _ => return Err(anyhow!("a file was made where no folder is")),
+        _ => bail!("a file was made where no folder is"),
     }
     broken(rt)
 }

@@ -34,7 +34,7 @@ pub fn filled<D: Device>(memory: &mut D, line: u64) -> Option<usize> {
     for word in 0..8u64 {
         let value = load(memory, line, word);
         if value == 1 && count as u64 == word {
-            count = (word as usize).saturating_add(1);
+            count = word as usize + 1;
         } else if value != 0 {
             return None;
         }

@@ -1,5 +1,5 @@
 -- Loops over slots, and over a key. Assumes nothing.
-use Rattle.std.proofs.Common.{◌≡◌, ℕ, zero, suc, ◌+◌, ◌-◌, ◌<◌, ◌≤◌, Bool, true, false, cond, ◌&&◌, eqb, List, [], ◌∷◌, length, take, drop, Some, None, refl, ap, ◌∙◌, arith, length-drop, length-take-le, ◌*◌, map}
+use Rattle.std.proofs.Common.{◌≡◌, ℕ, zero, suc, ◌+◌, ◌-◌, ◌<◌, ◌≤◌, Bool, true, false, cond, ◌&&◌, eqb, List, [], ◌∷◌, length, take, drop, Some, None, refl, ap, ◌∙◌, arith, ◌*◌, map}
 use Rattle.std.specs.Prelude.{sum}
 use Rattle.std.proofs.lemmas.List.Sums.{sum_by-cons}
 use Rattle.std.specs.List.{list_all, zip, range_with_len}
@@ -60,12 +60,6 @@ same_long (x ∷ xs) (y ∷ ys) ne = go (eqb x y) (same_long xs ys (λ e. ne (ap
     go : (t : Bool) → same_name xs ys ≡ false → (t && same_name xs ys) ≡ false
     go true h = h
     go false h = refl
-
-pub cut_length : (d : List ℕ) (s k : ℕ) → s + k ≤ length d → length (take (s + k - s) (drop s d)) ≡ k
-cut_length d s k h =
-    let e : s + k - s ≡ k = omega arith in
-    let l : length (drop s d) ≡ length d - s = length-drop s d in
-    ap (λ n. length (take n (drop s d))) e ∙ length-take-le k (drop s d) (omega arith)
 
 -- k words from a place on
 pub cut_is : {d d' : List ℕ} {s s' : ℕ} (k : ℕ) → d ≡ d' → s ≡ s' → take (s + k - s) (drop s d) ≡ take k (drop s' d')

@@ -1,7 +1,6 @@
-use borrow.Author.Rules.{rules}
 use Rattle.device.specs.Does.{d_end, d_store, d_push, d_fence}
 use Rattle.words.proofs.flip.Goals as goal
 
 -- no step is named here, so an operation that is left out or out of order is a fact that no search finds
-pub returns : goal.returns
-returns g c = record { did = search (d_end, d_store, d_push, d_fence); stays = search rules }
+pub returns-clause-did : goal.returns-clause-did
+returns-clause-did g c = search (d_end, d_store, d_push, d_fence)

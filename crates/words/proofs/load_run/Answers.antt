@@ -1,11 +1,8 @@
-use Rattle.std.proofs.Common.{subst, ◌∙◌, ◌/◌, ◌%◌, arith, length}
+use Rattle.std.proofs.Common.{subst, ◌∙◌, ◌%◌, arith, length}
 use Rattle.device.specs.Does.{Loaded}
 use Rattle.words.specs.Works.{load_via}
 use Rattle.words.proofs.Words.{load_again, load_all}
 use Rattle.words.proofs.load_run.Goals as goal
-
-pub load-requires : goal.load-requires
-load-requires g c = let low = g.met.P.Place.below c.args.place.now (c.loop-i.i / 8) (omega arith) in (omega (arith, low, c.line.ensures), omega arith)
 
 pub loop-i-preserved : goal.loop-i-preserved
 loop-i-preserved g c =
@@ -18,12 +15,8 @@ loop-i-preserved g c =
           c.loop-i.invariant.1,
     )
 
-pub returns : goal.returns
-returns g c =
-    let d = g.D.Device in
+pub returns-clause-did : goal.returns-clause-did
+returns-clause-did g c =
     let n = length c.args.out.now in
     let at = g.P.Place.at c.args.place.now in
-    record {
-      did = load_all d.step at c.loop-i.i n c.loop-i.out (load_via at 0 n) (omega arith) (omega arith) c.loop-i.invariant.1;
-      stays = c.loop-i.invariant.0;
-    }
+    load_all g.D.Device.step at c.loop-i.i n c.loop-i.out (load_via at 0 n) (omega arith) (omega arith) c.loop-i.invariant.1

@@ -1,11 +1,8 @@
-use Rattle.std.proofs.Common.{subst, ◌∙◌, ◌/◌, ◌%◌, arith, get_or}
+use Rattle.std.proofs.Common.{subst, ◌∙◌, ◌%◌, arith, get_or}
 use Rattle.device.specs.Does.{Stored}
 use Rattle.words.specs.Works.{store_via}
 use Rattle.words.proofs.Words.{store_again, store_all}
 use Rattle.words.proofs.store_run.Goals as goal
-
-pub store-requires : goal.store-requires
-store-requires g c = let low = g.met.P.Place.below c.args.place.now (c.loop-i.i / 8) (omega arith) in (omega (arith, low, c.line.ensures), omega arith)
 
 pub loop-i-preserved : goal.loop-i-preserved
 loop-i-preserved g c =
@@ -17,11 +14,7 @@ loop-i-preserved g c =
           c.loop-i.invariant.1,
     )
 
-pub returns : goal.returns
-returns g c =
-    let d = g.D.Device in
+pub returns-clause-did : goal.returns-clause-did
+returns-clause-did g c =
     let at = g.P.Place.at c.args.place.now in
-    record {
-      did = store_all d.step at c.loop-i.i c.args.words.now (store_via at 0 c.args.words.now) (omega arith) c.loop-i.invariant.1;
-      stays = c.loop-i.invariant.0;
-    }
+    store_all g.D.Device.step at c.loop-i.i c.args.words.now (store_via at 0 c.args.words.now) (omega arith) c.loop-i.invariant.1
