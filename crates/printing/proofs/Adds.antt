@@ -1,5 +1,5 @@
 -- One text after another. Assumes nothing.
-use Rattle.std.proofs.Common.{◌≡◌, ℕ, zero, suc, ◌+◌, ◌-◌, ◌*◌, ◌/◌, ◌%◌, ◌^◌, ◌<◌, ◌≤◌, min, List, [], ◌∷◌, ◌++◌, take, drop, replicate, Ok, Err, decimal, Result, sym, refl, ap, ◌∙◌, subst, append_assoc, arith}
+use Rattle.std.proofs.Common.{◌≡◌, ℕ, zero, suc, ◌+◌, ◌*◌, ◌/◌, ◌%◌, ◌^◌, ◌<◌, ◌≤◌, min, List, [], ◌∷◌, ◌++◌, take, replicate, Ok, Err, decimal, Result, sym, refl, ap, ◌∙◌, subst, append_assoc, arith}
 use Rattle.std.proofs.lemmas.Fmt.{decimal_digit, decimal_step}
 use Rattle.text.specs.Printer.{indent}
 use Rattle.printing.specs.declared.PrintError.{PrintError}
@@ -30,10 +30,10 @@ take_same zero m x h = refl
 take_same (suc n) zero x h = absurd (omega arith)
 take_same (suc n) (suc m) x h = ap (λ (l : List ℕ). x ∷ l) (take_same n m x (omega arith))
 
-pub spaces : (d : ℕ) → d ≤ 32 → take (4 * d - 0) (drop 0 (replicate 128 32)) ≡ indent d
+pub spaces : (d : ℕ) → d ≤ 32 → take (4 * d) (replicate 128 32) ≡ indent d
 unfolding indent
 spaces d h =
-    let e : 4 * d - 0 ≡ 4 * min d 32 = omega arith in
+    let e : 4 * d ≡ 4 * min d 32 = omega arith in
     ap (λ (k : ℕ). take k (replicate 128 32)) e ∙ take_same (4 * min d 32) 128 32 (omega arith)
 
 pub last_digit : (r : Result (Unit {0}) PrintError) (old mid new : List ℕ) (n : ℕ) → 10 ≤ n → n < 2 ^ 64 → mid ≡ old ++ decimal (n / 10) → Wrote r mid ((48 + n % 10) ∷ []) new → Wrote r old (decimal n) new

@@ -1,11 +1,16 @@
 -- The arms of the functions that print an expression. Assumes nothing.
-use Rattle.std.proofs.Common.{◌≡◌, ℕ, ◌+◌, ◌-◌, ◌*◌, ◌<◌, ◌≤◌, Bool, true, false, cond, ◌≢◌, List, [], ◌∷◌, ◌++◌, length, get_or, Some, None, codes, decimal, Option, Result, sym, refl, ap, ◌∙◌, subst, append_assoc, append-nil, arith}
+use Rattle.std.proofs.Common.{◌≡◌, ℕ, ◌+◌, ◌-◌, ◌*◌, ◌<◌, ◌≤◌, Bool, true, false, cond, ◌≢◌, List, [], ◌∷◌, ◌++◌, length, get_or, Some, None, Ok, Err, codes, decimal, Option, Result, sym, refl, ap, ◌∙◌, subst, append_assoc, append-nil, arith}
 use Rattle.plans.specs.Plan.{Expr, expr_size}
 use Rattle.text.specs.Token.{Op, PLUS, MINUS, TIMES, LESS, SAME}
 use Rattle.text.specs.Grammar.{Level, unary}
 use Rattle.text.specs.Printer.{expr_text, bracketed, fits}
 use Rattle.printing.specs.declared.PrintError.{PrintError}
-use Rattle.printing.specs.Levels.{own_of, right_of, op_kind, sign_text}
+use Rattle.text.specs.Kinds.{op_kind, Operates}
+use Rattle.text.specs.Ahead.{operator_meant}
+use Rattle.text.specs.declared.Operator.{Operator}
+use Rattle.text.specs.declared.NoOperation.{NoOperation}
+use Rattle.std.specs.Result.{result_ok}
+use Rattle.printing.specs.Levels.{own_of, right_of, sign_text, Before}
 use Rattle.printing.specs.Roots.{Rooted, Operation, FirstOf, FirstBefore}
 use Rattle.printing.specs.Said.{Wrote}
 use Rattle.printing.proofs.Adds.{wrote_as, then_wrote}
@@ -104,6 +109,13 @@ unfolding bracketed
 brackets true x y z = simp append-nil
 brackets false x y z = simp append_assoc
 
+-- the operand before a root, where there is room for it
+pub before_some : (r : Option ℕ) (root n l : ℕ) → Before r root n → r ≡ Some l → l + 4 + 4 * n ≡ root
+before_some r root n l h e = subst (λ (x : Option ℕ). Before x root n) e h
+
+pub before_none : (r : Option ℕ) (root n : ℕ) → Before r root n → r ≡ None → root < 4 + 4 * n
+before_none r root n h e = subst (λ (x : Option ℕ). Before x root n) e h
+
 -- what holds of an operation's operands, as the code finds them
 module _ (ws : List ℕ) (low root left : ℕ) (P : Type 0) (s : left + 4 + 4 * get_or ws (root + 1) 0 ≡ root) (o : Op) (a b : Expr) (x : Operation ws root o a b) where
   pub of_left : low ≤ x.left.from → ((e : Expr) (y : Rooted ws left e) → low ≤ y.from → P) → P
@@ -137,6 +149,18 @@ operated ws low root left p fit l own1 own2 right r old m1 m2 m3 m4 new k s f o1
     let done : Wrote r old (bracketed fit (expr_text (own_of p) a ++ (sign_text p ++ expr_text (right_of p) b))) new = wrote_as r old new _ _ (brackets fit (expr_text (own_of p) a) (sign_text p) (expr_text (right_of p) b)) all in
     let fine : Wrote r old (bracketed (fits (own_of p) l) (expr_text (own_of p) a ++ (sign_text p ++ expr_text (right_of p) b))) new = subst (λ (v : Bool). Wrote r old (bracketed v (expr_text (own_of p) a ++ (sign_text p ++ expr_text (right_of p) b))) new) g done in
     subst (λ (v : Op). Wrote r old (bracketed (fits (own_of v) l) (expr_text (own_of v) a ++ (sign_text v ++ expr_text (right_of v) b))) new) (sym q) fine
+
+-- the operation that a kind is, if it is one
+pub operates_some : (k : ℕ) (r : Result Operator NoOperation) (o : Operator) → Operates k r → result_ok r ≡ Some o → k ≡ op_kind (operator_meant o)
+operates_some k (Ok p) o h e = let same : p ≡ o = cc in h ∙ ap (λ (x : Operator). op_kind (operator_meant x)) same
+operates_some k (Err x) o h e = let z : ◌≡◌ {A = ℕ} 0 1 = cc in absurd (omega arith)
+
+pub operates_none : (k : ℕ) (r : Result Operator NoOperation) → Operates k r → result_ok r ≡ None → (o : Op) → k ≢ op_kind o
+operates_none k (Ok p) h e = let z : ◌≡◌ {A = ℕ} 0 1 = cc in absurd (omega arith)
+operates_none k (Err x) h e = h
+
+pub before_short : (ws : List ℕ) (root n : ℕ) → root < 4 + 4 * n → FirstBefore None ws root n
+before_short ws root n h = λ e l i x. omega arith
 
 -- where an expression begins
 module _ (ws : List ℕ) (root : ℕ) where
@@ -197,3 +221,9 @@ before_first ws root left n (Some a) h w = (let q : a ≤ left = w.0 in omega ar
     go : (a : ℕ) (e : Expr) (l : ℕ) (x : Rooted ws l e) → l ≡ left → ((e : Expr) (x : Rooted ws left e) → a ≡ x.from) → a ≡ x.from
     go a e l x s v = v e (record { from = x.from; rest = x.rest; is = x.is; ends = let q = x.ends in omega arith })
 before_first ws root left n None h w = λ e l g x. let s : l ≡ left = omega arith in w e (subst (λ (k : ℕ). Rooted ws k e) s x)
+
+pub first_some : (ws : List ℕ) (root : ℕ) (r : Option ℕ) (a : ℕ) → FirstOf r ws root → r ≡ Some a → FirstOf (Some a) ws root
+first_some ws root r a h e = subst (λ (x : Option ℕ). FirstOf x ws root) e h
+
+pub first_none : (ws : List ℕ) (root : ℕ) (r : Option ℕ) → FirstOf r ws root → r ≡ None → FirstOf None ws root
+first_none ws root r h e = subst (λ (x : Option ℕ). FirstOf x ws root) e h

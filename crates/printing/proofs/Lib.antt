@@ -1,3 +1,4 @@
+pub mod Ranks
 pub mod Adds
 pub mod Shapes
 pub mod Arms

@@ -7,7 +7,8 @@ use Rattle.text.specs.Token.{Op, PLUS, MINUS, TIMES, LESS, SAME}
 use Rattle.text.specs.Grammar.{Level, unary}
 use Rattle.text.specs.Lexer.{spell_op}
 use Rattle.text.specs.Printer.{expr_text, bracketed, between, fits}
-use Rattle.printing.specs.Levels.{own_of, right_of, op_kind, sign_text}
+use Rattle.text.specs.Kinds.{op_kind}
+use Rattle.printing.specs.Levels.{own_of, right_of, sign_text}
 use Rattle.printing.specs.Roots.{Rooted, Operation}
 
 pub past : (ws xs ys : List ℕ) (a : ℕ) → drop a ws ≡ xs ++ ys → drop (a + length xs) ws ≡ ys

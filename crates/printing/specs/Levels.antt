@@ -1,10 +1,8 @@
 -- Operations, and where they stand. Assumes nothing.
-use Rattle.std.specs.Prelude.{◌≡◌, ℕ, ◌+◌, ◌*◌, ◌<◌, List, Some, None, codes, Option, ◌≢◌}
+use Rattle.std.specs.Prelude.{◌≡◌, ℕ, ◌+◌, ◌*◌, ◌<◌, List, Some, None, codes, Option}
 use Rattle.text.specs.Token.{Op, PLUS, MINUS, TIMES, LESS, SAME}
 use Rattle.text.specs.Grammar as grammar
 use Rattle.text.specs.Grammar.{unary, product, sum, compare}
-use Rattle.text.specs.Ahead.{operator_meant}
-use Rattle.text.specs.declared.Operator.{Operator}
 use Rattle.printing.specs.declared.Level.{Level}
 use Rattle.printing.specs.declared.Level.TheVariants.{Unary, Product, Sum, Compare}
 
@@ -28,19 +26,6 @@ right_of MINUS = product
 right_of TIMES = unary
 right_of LESS = sum
 right_of SAME = sum
-
--- the kind of an operation's unit
-abbrev pub op_kind : Op → ℕ
-op_kind PLUS = 18
-op_kind MINUS = 19
-op_kind TIMES = 20
-op_kind LESS = 21
-op_kind SAME = 22
-
--- a unit of this kind is this operation
-abbrev pub Operates : Option Operator → ℕ → Type 0
-Operates (Some o) k = k ≡ op_kind (operator_meant o)
-Operates None k = (o : Op) → k ≢ op_kind o
 
 -- what stands before the units of the operand before a root
 abbrev pub Before : Option ℕ → ℕ → ℕ → Type 0

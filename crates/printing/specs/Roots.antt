@@ -3,7 +3,7 @@ use Rattle.std.specs.Prelude.{◌≡◌, ℕ, ◌+◌, ◌-◌, ◌*◌, ◌<◌
 use Rattle.plans.specs.Plan.{Expr, expr_size}
 use Rattle.plans.specs.Flat.{code_of}
 use Rattle.text.specs.Token.{Op}
-use Rattle.printing.specs.Levels.{op_kind}
+use Rattle.text.specs.Kinds.{op_kind}
 
 -- whether n is not above m
 abbrev pub Room : Bool → ℕ → ℕ → Type 0

@@ -7,32 +7,70 @@ ghost use Rattle.plans.specs.Flat.{code_of, codes_of, IsFlat};
 ghost use Rattle.text.specs.Token.{Op};
 ghost use Rattle.text.specs.Grammar.{unary, compare};
 ghost use Rattle.text.specs.Ahead.{operator_meant};
-ghost use Rattle.text.specs.Printer.{expr_text, args_text, bracketed, indent, eol, lines_of, line_stmt, text_of, fits, rank as rank_of};
+ghost use Rattle.text.specs.Printer.{expr_text, args_text, bracketed, indent, eol, lines_of, line_stmt, text_of, fits};
 ghost use Rattle.printing.specs.Said.{Wrote, Spoke};
-ghost use Rattle.printing.specs.Levels.{level_meant, own_of, right_of, Operates, Before, sign_text};
+ghost use Rattle.printing.specs.Levels.{level_meant, own_of, right_of, Before, sign_text};
+ghost use Rattle.printing.specs.declared.PrintError.TheVariants.{Memory, Damaged};
 ghost use Rattle.printing.specs.Roots.{Room, Rooted, Operation, FirstOf, FirstBefore};
 ghost use Rattle.printing.specs.Heads.{is_unit, units_in, letters_in, PartAt, StmtAt, braced, told};
 
 use plans::kinds;
-use text::Operator;
+use std::alloc::AllocError;
+use std::error::Error;
+use std::fmt;
+use std::num::TryFromIntError;
+use text::{NoOperation, Operator};
 
 // What a statement's entry has besides its kind counts in these.
 const PER_FRAME: u64 = 32;
 
 // Why a plan is not printed. Damaged: the words are no plan's flat form.
-#[derive(Clone, Copy)]
+#[derive(Clone, Copy, Debug, PartialEq, Eq)]
 pub enum PrintError {
     Memory,
     Damaged,
 }
 
+impl fmt::Display for PrintError {
+    fn fmt<W: fmt::Write>(&self, f: &mut fmt::Formatter<W>) -> fmt::Result {
+        f.write_str(match self {
+            PrintError::Memory => "out of memory",
+            PrintError::Damaged => "the words are no plan",
+        })
+    }
+}
+
+impl Error for PrintError {}
+
+impl From<AllocError> for PrintError {
+    ghost from_gives = { λ _ e. e ≡ Memory };
+
+    fn from(_error: AllocError) -> PrintError {
+        PrintError::Memory
+    }
+}
+
+impl From<NoOperation> for PrintError {
+    ghost from_gives = { λ _ e. e ≡ Damaged };
+
+    fn from(_error: NoOperation) -> PrintError {
+        PrintError::Damaged
+    }
+}
+
+impl From<TryFromIntError> for PrintError {
+    ghost from_gives = { λ _ e. e ≡ Damaged };
+
+    fn from(_error: TryFromIntError) -> PrintError {
+        PrintError::Damaged
+    }
+}
+
 fn put(out: &mut Vec<u8>, bytes: &[u8]) -> Result<(), PrintError>
     ensures { Wrote result out.old.items bytes.now out.new.items }
 {
-    match out.extend_from_slice(bytes) {
-        Ok(()) => Ok(()),
-        Err(_) => Err(PrintError::Memory),
-    }
+    out.extend_from_slice(bytes)?;
+    Ok(())
 }
 
 // A number, its last digit last.
@@ -46,37 +84,40 @@ fn put_number(out: &mut Vec<u8>, n: u64) -> Result<(), PrintError>
     put(out, &[b'0' + (n % 10) as u8])
 }
 
+// How many parts a line is in, of which 32 at most are shown.
+#[derive(Clone, Copy)]
+struct Depth {
+    parts: usize,
+    ghost few: { parts ≤ 32 },
+}
+
+impl Depth {
+    // Inside one part more.
+    fn inner(self) -> Depth
+        ensures { result.parts ≡ min (self.parts + 1) 32 }
+    {
+        Depth {
+            parts: (self.parts + 1).min(32),
+        }
+    }
+}
+
 static SPACES: [u8; 128] = [b' '; 128];
 
-// What a line begins with that is in so many parts, of at most 32.
-fn put_indent(out: &mut Vec<u8>, depth: usize) -> Result<(), PrintError>
-    requires { depth ≤ 32 }
-    ensures { Wrote result out.old.items (indent depth) out.new.items }
+// What a line begins with.
+fn put_indent(out: &mut Vec<u8>, depth: Depth) -> Result<(), PrintError>
+    ensures { Wrote result out.old.items (indent depth.parts) out.new.items }
 {
-    put(out, &SPACES[0..4 * depth])
+    put(out, &SPACES[..4 * depth.parts])
 }
 
 // How tightly the operations of an expression bind that can stand at a place.
-#[derive(Clone, Copy)]
+#[derive(Clone, Copy, PartialEq, Eq, PartialOrd, Ord)]
 enum Level {
     Unary,
     Product,
     Sum,
     Compare,
-}
-
-// The operation that a unit of this kind is.
-fn operator_of(kind: u64) -> Option<Operator>
-    ensures { Operates result kind }
-{
-    match kind {
-        kinds::PLUS => Some(Operator::Plus),
-        kinds::MINUS => Some(Operator::Minus),
-        kinds::TIMES => Some(Operator::Times),
-        kinds::LESS => Some(Operator::Less),
-        kinds::SAME => Some(Operator::Same),
-        _ => None,
-    }
 }
 
 // An operation's own level, which its left operand may have too.
@@ -101,17 +142,6 @@ fn right_level(operator: Operator) -> Level
         Operator::Times => Level::Unary,
         Operator::Less => Level::Sum,
         Operator::Same => Level::Sum,
-    }
-}
-
-fn rank(level: Level) -> u8
-    ensures { result ≡ rank_of (level_meant level) }
-{
-    match level {
-        Level::Unary => 0,
-        Level::Product => 1,
-        Level::Sum => 2,
-        Level::Compare => 3,
     }
 }
 
@@ -161,9 +191,11 @@ fn holds(words: &[u64], at: usize, count: usize) -> bool
     count <= words.len() && at <= words.len() - count
 }
 
+// The words and the text stay two arguments of each function: in one struct the text would be a loan, through which every clause had to look.
+
 // The expression whose last unit is at `root` and whose units are all at `low` or behind it, where one of this level is wanted.
 // Operands get ranges of their own, so that each unit is printed once at most, whatever the words are.
-#[cycle(print_expr_print_not_print_operation)]
+#[cycle(exprs)]
 fn print_expr(
     words: &[u64],
     low: usize,
@@ -188,7 +220,7 @@ fn print_expr(
     }
 }
 
-#[cycle(print_expr_print_not_print_operation)]
+#[cycle(exprs)]
 fn print_not(words: &[u64], low: usize, root: usize, out: &mut Vec<u8>) -> Result<(), PrintError>
     ensures { (e : Expr) → 4 ≤ root → (x : Rooted words.now (root - 4) e) → low ≤ x.from →
         Wrote result out.old.items (codes "not " ++ expr_text unary e) out.new.items }
@@ -200,7 +232,7 @@ fn print_not(words: &[u64], low: usize, root: usize, out: &mut Vec<u8>) -> Resul
     print_expr(words, low, root - 4, Level::Unary, out)
 }
 
-#[cycle(print_expr_print_not_print_operation)]
+#[cycle(exprs)]
 fn print_operation(
     words: &[u64],
     low: usize,
@@ -212,13 +244,9 @@ fn print_operation(
     ensures { (o : Op) (a b : Expr) (x : Operation words.now root o a b) → low ≤ x.left.from →
         Wrote result out.old.items (bracketed (fits (own_of o) (level_meant level)) (expr_text (own_of o) a ++ (sign_text o ++ expr_text (right_of o) b))) out.new.items }
 {
-    let Some(operator) = operator_of(words[root]) else {
-        return Err(PrintError::Damaged);
-    };
-    let Some(left) = root_before(root, words[root + 1]) else {
-        return Err(PrintError::Damaged);
-    };
-    let fits = rank(own_level(operator)) <= rank(level);
+    let operator = Operator::try_from(words[root])?;
+    let left = root_before(root, words[root + 1]).ok_or(PrintError::Damaged)?;
+    let fits = own_level(operator) <= level;
     put_unless(out, fits, b"(")?;
     print_expr(words, low, left, own_level(operator), out)?;
     put_operator(out, operator)?;
@@ -227,7 +255,7 @@ fn print_operation(
 }
 
 // The first unit of the expression whose last is at `root`: that of its left operands.
-#[cycle(first_before_first_unit)]
+#[cycle(first)]
 fn first_unit(words: &[u64], root: usize) -> Option<usize>
     ensures { FirstOf result words.now root }
 {
@@ -238,22 +266,19 @@ fn first_unit(words: &[u64], root: usize) -> Option<usize>
         kinds::NUMBER => Some(root),
         kinds::VARIABLE => Some(root),
         kinds::NOT => first_before(words, root, 0),
-        kind => match operator_of(kind) {
-            Some(_) => first_before(words, root, words[root + 1]),
-            None => None,
-        },
+        kind => {
+            Operator::try_from(kind).ok()?;
+            first_before(words, root, words[root + 1])
+        }
     }
 }
 
 // The first unit of the operand before one of so many units.
-#[cycle(first_before_first_unit)]
+#[cycle(first)]
 fn first_before(words: &[u64], root: usize, units: u64) -> Option<usize>
     ensures { FirstBefore result words.now root units }
 {
-    match root_before(root, units) {
-        Some(left) => first_unit(words, left),
-        None => None,
-    }
+    first_unit(words, root_before(root, units)?)
 }
 
 fn is_unit(kind: u64) -> bool
@@ -263,6 +288,7 @@ fn is_unit(kind: u64) -> bool
 }
 
 // Behind the units of expressions that begin here.
+// By places and not by slices: the answer is a place, which would have to be counted beside them.
 fn past_units(words: &[u64], from: usize) -> usize
     ensures { result ≡ from + units_in (drop from words.now) }
 {
@@ -307,9 +333,7 @@ fn print_args(
     if count == 1 {
         return print_expr(words, low, end - 4, Level::Compare, out);
     }
-    let Some(first) = first_unit(words, end - 4) else {
-        return Err(PrintError::Damaged);
-    };
+    let first = first_unit(words, end - 4).ok_or(PrintError::Damaged)?;
     print_args(words, low, first, count - 1, out)?;
     put(out, b", ")?;
     print_expr(words, first, end - 4, Level::Compare, out)
@@ -319,13 +343,11 @@ fn print_args(
 fn put_name(out: &mut Vec<u8>, letters: &[u64]) -> Result<(), PrintError>
     ensures { every (λ b. nat_lt b 256) letters.now ≡ true → Wrote result out.old.items (letters_in letters.now) out.new.items }
 {
-    let mut i = 0;
-    while i < letters.len() && letters[i] != 0 {
-        if letters[i] > 255 {
-            return Err(PrintError::Damaged);
+    for letter in letters {
+        if *letter == 0 {
+            break;
         }
-        put(out, &[letters[i] as u8])?;
-        i += 1;
+        put(out, &[u8::try_from(*letter)?])?;
     }
     Ok(())
 }
@@ -411,16 +433,16 @@ fn print_hear(words: &[u64], at: usize, out: &mut Vec<u8>) -> Result<usize, Prin
 }
 
 // The statement whose head is at `at`, as its lines, inside so many parts.
-#[cycle(print_braced_print_guard_print_if_print_part_print_statement_print_while)]
+#[cycle(parts)]
 fn print_statement(
     words: &[u64],
     at: usize,
-    depth: usize,
+    depth: Depth,
     out: &mut Vec<u8>,
 ) -> Result<usize, PrintError>
-    requires { (at + 4 ≤ length words.now) × (depth ≤ 32) }
+    requires { at + 4 ≤ length words.now }
     ensures forth { IfOk result (λ p. at < p) }
-    ensures text { (d : ℕ) (s : Stmt) (rest : List ℕ) → depth ≡ min d 32 → StmtAt words.now at s rest → stmt_ok s ≡ true →
+    ensures text { (d : ℕ) (s : Stmt) (rest : List ℕ) → depth.parts ≡ min d 32 → StmtAt words.now at s rest → stmt_ok s ≡ true →
         Spoke result words.now rest out.old.items (line_stmt d s) out.new.items }
 {
     put_indent(out, depth)?;
@@ -441,11 +463,11 @@ fn print_statement(
     }
 }
 
-#[cycle(print_braced_print_guard_print_if_print_part_print_statement_print_while)]
-fn print_if(words: &[u64], at: usize, depth: usize, out: &mut Vec<u8>) -> Result<usize, PrintError>
-    requires { (at + 4 ≤ length words.now) × (depth ≤ 32) }
+#[cycle(parts)]
+fn print_if(words: &[u64], at: usize, depth: Depth, out: &mut Vec<u8>) -> Result<usize, PrintError>
+    requires { at + 4 ≤ length words.now }
     ensures forth { IfOk result (λ p. at < p) }
-    ensures text { (d : ℕ) (e : Expr) (a b : Block) (rest : List ℕ) → depth ≡ min d 32 → StmtAt words.now at (If e a b) rest → block_ok a ≡ true → block_ok b ≡ true →
+    ensures text { (d : ℕ) (e : Expr) (a b : Block) (rest : List ℕ) → depth.parts ≡ min d 32 → StmtAt words.now at (If e a b) rest → block_ok a ≡ true → block_ok b ≡ true →
         Spoke result words.now rest out.old.items (told d (If e a b)) out.new.items }
 {
     put(out, b"if ")?;
@@ -457,16 +479,16 @@ fn print_if(words: &[u64], at: usize, depth: usize, out: &mut Vec<u8>) -> Result
     Ok(end)
 }
 
-#[cycle(print_braced_print_guard_print_if_print_part_print_statement_print_while)]
+#[cycle(parts)]
 fn print_while(
     words: &[u64],
     at: usize,
-    depth: usize,
+    depth: Depth,
     out: &mut Vec<u8>,
 ) -> Result<usize, PrintError>
-    requires { (at + 4 ≤ length words.now) × (depth ≤ 32) }
+    requires { at + 4 ≤ length words.now }
     ensures forth { IfOk result (λ p. at < p) }
-    ensures text { (d : ℕ) (e : Expr) (a : Block) (rest : List ℕ) → depth ≡ min d 32 → StmtAt words.now at (While e a) rest → block_ok a ≡ true →
+    ensures text { (d : ℕ) (e : Expr) (a : Block) (rest : List ℕ) → depth.parts ≡ min d 32 → StmtAt words.now at (While e a) rest → block_ok a ≡ true →
         Spoke result words.now rest out.old.items (told d (While e a)) out.new.items }
 {
     put(out, b"while ")?;
@@ -476,16 +498,16 @@ fn print_while(
     Ok(end)
 }
 
-#[cycle(print_braced_print_guard_print_if_print_part_print_statement_print_while)]
+#[cycle(parts)]
 fn print_guard(
     words: &[u64],
     at: usize,
-    depth: usize,
+    depth: Depth,
     out: &mut Vec<u8>,
 ) -> Result<usize, PrintError>
-    requires { (at + 4 ≤ length words.now) × (depth ≤ 32) }
+    requires { at + 4 ≤ length words.now }
     ensures forth { IfOk result (λ p. at < p) }
-    ensures text { (d : ℕ) (a b : Block) (rest : List ℕ) → depth ≡ min d 32 → StmtAt words.now at (Guard a b) rest → block_ok a ≡ true → block_ok b ≡ true →
+    ensures text { (d : ℕ) (a b : Block) (rest : List ℕ) → depth.parts ≡ min d 32 → StmtAt words.now at (Guard a b) rest → block_ok a ≡ true → block_ok b ≡ true →
         Spoke result words.now rest out.old.items (told d (Guard a b)) out.new.items }
 {
     put(out, b"guard")?;
@@ -497,36 +519,34 @@ fn print_guard(
 }
 
 // The part that begins here, in braces.
-#[cycle(print_braced_print_guard_print_if_print_part_print_statement_print_while)]
+#[cycle(parts)]
 fn print_braced(
     words: &[u64],
     at: usize,
-    depth: usize,
+    depth: Depth,
     out: &mut Vec<u8>,
 ) -> Result<usize, PrintError>
-    requires { depth ≤ 32 }
     ensures forth { IfOk result (λ p. at < p) }
-    ensures text { (d : ℕ) (b : Block) (rest : List ℕ) → depth ≡ min d 32 → PartAt words.now at b rest → block_ok b ≡ true →
+    ensures text { (d : ℕ) (b : Block) (rest : List ℕ) → depth.parts ≡ min d 32 → PartAt words.now at b rest → block_ok b ≡ true →
         Spoke result words.now rest out.old.items (braced d b) out.new.items }
 {
     put(out, b" {\n")?;
-    let end = print_part(words, at, (depth + 1).min(32), out)?;
+    let end = print_part(words, at, depth.inner(), out)?;
     put_indent(out, depth)?;
     put(out, b"}")?;
     Ok(end)
 }
 
 // The part that begins here, one statement after another; then the address behind it.
-#[cycle(print_braced_print_guard_print_if_print_part_print_statement_print_while)]
+#[cycle(parts)]
 fn print_part(
     words: &[u64],
     at: usize,
-    depth: usize,
+    depth: Depth,
     out: &mut Vec<u8>,
 ) -> Result<usize, PrintError>
-    requires { depth ≤ 32 }
     ensures forth { IfOk result (λ p. at < p) }
-    ensures text { (d : ℕ) (b : Block) (rest : List ℕ) → depth ≡ min d 32 → PartAt words.now at b rest → block_ok b ≡ true →
+    ensures text { (d : ℕ) (b : Block) (rest : List ℕ) → depth.parts ≡ min d 32 → PartAt words.now at b rest → block_ok b ≡ true →
         Spoke result words.now rest out.old.items (lines_of d b) out.new.items }
 {
     let mut here = at;
@@ -545,7 +565,7 @@ fn print_part(
 pub fn print(words: &[u64], out: &mut Vec<u8>) -> Result<(), PrintError>
     ensures { (b : Block) → IsFlat words.now b → block_ok b ≡ true → Wrote result out.old.items (text_of b) out.new.items }
 {
-    let end = print_part(words, 0, 0, out)?;
+    let end = print_part(words, 0, Depth { parts: 0 }, out)?;
     if end < words.len() {
         return Err(PrintError::Damaged);
     }

@@ -9,7 +9,7 @@ use std::io::{Read, Write};
 use std::process::ExitCode;
 use std::{env, fs, io};
 use tidy::{Place, TidyError, place_of, tidy};
-use wording::wording;
+use wording::Wording;
 
 // Reads some bytes more; false at the end.
 fn read_more<R: Read>(input: &mut R, text: &mut Vec<u8>) -> io::Result<bool> {
@@ -60,7 +60,7 @@ fn complain(rt: &HostRuntime, name: &str, text: &[u8], why: NoPlan) -> io::Resul
     let place = place_of(text, why.at);
     let line = place.line;
     let column = place.column;
-    let what = wording(text, why);
+    let what = Wording { text, why };
     eprintln!(rt; "{name}:{line}:{column}: expected {what}")?;
     let shown = excerpt(rt.alloc(), text, place)?;
     rt.stderr().write_all(shown.as_slice())

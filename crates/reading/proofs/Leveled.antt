@@ -1,6 +1,5 @@
 -- Expressions, level by level, against the reader of tokens.
 use Rattle.std.proofs.Common.{◌≡◌, ℕ, zero, suc, ◌+◌, ◌-◌, ◌*◌, ◌/◌, ◌<◌, ◌≤◌, Bool, true, false, cond, eqb, List, [], ◌∷◌, ◌++◌, length, take, drop, Some, None, Ok, Err, Option, Result, sym, refl, ap, ◌∙◌, subst, append_assoc, le_trans, le_refl, arith, length-append, length-take-le}
-use Rattle.std.proofs.lemmas.Bool.{false≢true}
 use Rattle.plans.specs.Plan.{Expr, Lit, Var, Plus, Minus, Times, Less, Same, Not, expr_size}
 use Rattle.plans.specs.Flat.{code_of}
 use Rattle.plans.proofs.Drafts.{code_length}
@@ -23,7 +22,8 @@ use Rattle.reading.specs.declared.exprs.Opening.TheVariants as opening
 use Rattle.reading.specs.Took.{Family, Took, found, Only, Bars, bars}
 use Rattle.reading.specs.Took as took
 use Rattle.reading.specs.Tokens.{one_key}
-use Rattle.reading.specs.Levels.{below_of, is_unary, join_at, parser_at, expr_at, more_at, only_at, joins_at, kind_of, build, opens_at, NoRoom, Further, Leaf, ReadExpr}
+use Rattle.text.specs.Kinds.{kind_of}
+use Rattle.reading.specs.Levels.{below_of, join_at, parser_at, expr_at, more_at, only_at, joins_at, build, opens_at, NoRoom, Further, Leaf, ReadExpr}
 use Rattle.reading.proofs.Taking.{take_token, bar_token, bar_stop, bar_bad}
 use Rattle.reading.proofs.Chains.{prefix, prefix_bar, bind, bind_bar, rename_bar, took_bar, only_then, only_at_lem, and_at}
 
@@ -108,24 +108,24 @@ more_only j p g (suc m) e (t ∷ ts) = go (j t) (g t) (λ f us. more_only j p g 
         only_then (λ (x : Expr). Unit {0}) _ (p ts) _ (only_any (p ts)) (λ b us x. only_more (λ (z : Expr). expr_size (f e b) ≤ expr_size z) (λ (z : Expr). expr_size e ≤ expr_size z) (λ z y. le_trans (h e b) y) _ (ih (f e b) us))
 
 -- an expression of a level is its first operand and what is behind that
-chain_is : (level : Level) → is_unary level ≡ false → (n d : ℕ) (ts : List token.Token) → parser_at level n d ts ≡ and_then (parser_at (below_of level) n d ts) (λ e us. more_s (join_at level) (parser_at (below_of level) n d) (length us) e us)
+chain_is : (level : Level) → (level ≡ Unary → ⊥) → (n d : ℕ) (ts : List token.Token) → parser_at level n d ts ≡ and_then (parser_at (below_of level) n d ts) (λ e us. more_s (join_at level) (parser_at (below_of level) n d) (length us) e us)
 unfolding chain_s
 chain_is Compare h n d ts = refl
 chain_is Sum h n d ts = refl
 chain_is Product h n d ts = refl
-chain_is Unary h n d ts = absurd (false≢true (sym h))
+chain_is Unary h n d ts = absurd (h refl)
 
-pub chain_took : (level : Level) (d : ℕ) (e f : Expr) {l m k : Lexed} → is_unary level ≡ false → Took (expr_at (below_of level) d) e l m → Took (more_at level d e) f m k → Took (expr_at level d) f l k
+pub chain_took : (level : Level) (d : ℕ) (e f : Expr) {l m k : Lexed} → (level ≡ Unary → ⊥) → Took (expr_at (below_of level) d) e l m → Took (more_at level d e) f m k → Took (expr_at level d) f l k
 unfolding and_then
 chain_took level d e f u x y = bind (expr_at (below_of level) d) (more_at level d e) (expr_at level d) e f f x y (λ ts us vs le g h n i j k. chain_is level u n d ts ∙ (rw (g n i j k) (h n (length us) (le_trans le j) (le_refl _))))
 
-pub chain_bar_first : (level : Level) (d room len : ℕ) {l : Lexed} → is_unary level ≡ false → Bars (expr_at (below_of level) d) (NoRoom room len) l → Bars (expr_at level d) (NoRoom room len) l
+pub chain_bar_first : (level : Level) (d room len : ℕ) {l : Lexed} → (level ≡ Unary → ⊥) → Bars (expr_at (below_of level) d) (NoRoom room len) l → Bars (expr_at level d) (NoRoom room len) l
 chain_bar_first level d room len u x =
     rename_bar (expr_at (below_of level) d) (expr_at level d) (NoRoom room len) (NoRoom room len) x
     (λ ts g n i j k. only_at_lem _ _ _ (chain_is level u n d ts) (only_then (NoRoom room len) _ (parser_at (below_of level) n d ts) _ (g n i j k)
     (λ e us big. only_more (λ (z : Expr). expr_size e ≤ expr_size z) (NoRoom room len) (λ z le. omega arith) _ (more_only (join_at level) (parser_at (below_of level) n d) (grows level) (length us) e us))))
 
-pub chain_bar_more : (level : Level) (d room len : ℕ) (e : Expr) {l m : Lexed} → is_unary level ≡ false → Took (expr_at (below_of level) d) e l m → Bars (more_at level d e) (NoRoom room len) m → Bars (expr_at level d) (NoRoom room len) l
+pub chain_bar_more : (level : Level) (d room len : ℕ) (e : Expr) {l m : Lexed} → (level ≡ Unary → ⊥) → Took (expr_at (below_of level) d) e l m → Bars (more_at level d e) (NoRoom room len) m → Bars (expr_at level d) (NoRoom room len) l
 unfolding and_then
 chain_bar_more level d room len e u x y =
     bind_bar (expr_at (below_of level) d) (more_at level d e) (expr_at level d) e (NoRoom room len) (NoRoom room len) x y
@@ -389,7 +389,7 @@ unfolding unary_s by_word in_bracket
 bracket_bar_deep Big l m h = bar_token (expr_at Unary 0) Big (key OPEN) l m h (λ us n i. tt)
 
 -- what begins no expression
-pub nothing_bar : (d : ℕ) (Big : Expr → Type 0) (t : Token) (w : List ℕ) (l m : Lexed) → l ≡ both (means t w) m → (stops t ≡ true → m ≡ tokens []) → opens_at t ≡ opening.Nothing → Bars (expr_at Unary d) Big l
+pub nothing_bar : (d : ℕ) (Big : Expr → Type 0) (t : Token) (w : List ℕ) (l m : Lexed) → l ≡ both (means t w) m → (stops t ≡ true → m ≡ tokens []) → opens_at t ≡ None → Bars (expr_at Unary d) Big l
 unfolding unary_s by_word
 nothing_bar d Big (is.Number n) w l m h s k = let z : ◌≡◌ {A = ℕ} 0 1 = cc in absurd (omega arith)
 nothing_bar d Big (is.Variable n) w l m h s k = let z : ◌≡◌ {A = ℕ} 0 1 = cc in absurd (omega arith)
@@ -461,7 +461,7 @@ none_of None h = refl
 pub op_ahead : (text : List ℕ) (from : ℕ) (r : Lexeme) (o : Operator) → ahead text from ≡ both (meant text r) (ahead text r.next) → r.token ≡ is.Operator o → ahead text from ≡ both (tokens (op (operator_meant o) ∷ [])) (ahead text r.next)
 op_ahead text from r o h e = h ∙ ap (λ (x : Token). both (means x (take (r.next - r.start) (drop r.start text))) (ahead text r.next)) e
 
-pub opens_n : (t : Token) (n : ℕ) → opens_at t ≡ opening.Number n → t ≡ is.Number n
+pub opens_n : (t : Token) (n : ℕ) → opens_at t ≡ Some (opening.Number n) → t ≡ is.Number n
 opens_n (is.Number x) n h = let e : x ≡ n = cc in ap is.Number e
 opens_n (is.Variable x) n h = let z : ◌≡◌ {A = ℕ} 0 1 = cc in absurd (omega arith)
 opens_n is.Name n h = let z : ◌≡◌ {A = ℕ} 0 1 = cc in absurd (omega arith)
@@ -488,7 +488,7 @@ opens_n (is.Key word.Begin) n h = let z : ◌≡◌ {A = ℕ} 0 1 = cc in absurd
 opens_n (is.Key word.End) n h = let z : ◌≡◌ {A = ℕ} 0 1 = cc in absurd (omega arith)
 opens_n (is.Key word.Comma) n h = let z : ◌≡◌ {A = ℕ} 0 1 = cc in absurd (omega arith)
 
-pub opens_v : (t : Token) (n : ℕ) → opens_at t ≡ opening.Variable n → t ≡ is.Variable n
+pub opens_v : (t : Token) (n : ℕ) → opens_at t ≡ Some (opening.Variable n) → t ≡ is.Variable n
 opens_v (is.Number x) n h = let z : ◌≡◌ {A = ℕ} 0 1 = cc in absurd (omega arith)
 opens_v (is.Variable x) n h = let e : x ≡ n = cc in ap is.Variable e
 opens_v is.Name n h = let z : ◌≡◌ {A = ℕ} 0 1 = cc in absurd (omega arith)
@@ -520,7 +520,7 @@ pub further_on : (r : Result Cursor NoPlan) (least : ℕ) (at c : Cursor) (bytes
 further_on (Ok x) least at c bytes room all e h p q = (omega (arith, h.0), h.1, omega (arith, h.2), omega (arith, h.3))
 further_on (Err x) least at c bytes room all e h p q = tt
 
-pub chain_read : (level : Level) (d : ℕ) (e : Expr) (text : List ℕ) (at : ℕ) (pre : List ℕ) (c : Cursor) (ys : List ℕ) (r : Result Cursor NoPlan) → is_unary level ≡ false → Took (expr_at (below_of level) d) e (ahead text at) (ahead text c.pos) → ReadExpr r (more_at level d e) text c.pos pre ys → ReadExpr r (expr_at level d) text at pre ys
+pub chain_read : (level : Level) (d : ℕ) (e : Expr) (text : List ℕ) (at : ℕ) (pre : List ℕ) (c : Cursor) (ys : List ℕ) (r : Result Cursor NoPlan) → (level ≡ Unary → ⊥) → Took (expr_at (below_of level) d) e (ahead text at) (ahead text c.pos) → ReadExpr r (more_at level d e) text c.pos pre ys → ReadExpr r (expr_at level d) text at pre ys
 chain_read level d e text at pre c ys (Ok x) u t h = record { tree = h.tree; took = chain_took level d e h.tree u t h.took; words = h.words }
 chain_read level d e text at pre c ys (Err x) u t h = chain_bar_more level d (length ys) (length pre) e u t h
 

@@ -1,5 +1,5 @@
 -- Statements and parts against the reader of tokens.
-use Rattle.std.proofs.Common.{◌≡◌, ℕ, zero, suc, ◌+◌, ◌-◌, ◌*◌, ◌/◌, ◌<◌, ◌≤◌, true, false, List, [], ◌∷◌, ◌++◌, length, take, Ok, Err, Result, sym, refl, ap, ◌∙◌, subst, append_assoc, le_refl, arith, length-take-le}
+use Rattle.std.proofs.Common.{◌≡◌, ℕ, zero, suc, ◌+◌, ◌-◌, ◌*◌, ◌/◌, ◌<◌, ◌≤◌, true, false, List, [], ◌∷◌, ◌++◌, length, take, Some, None, Ok, Err, Result, sym, refl, ap, ◌∙◌, subst, append_assoc, le_refl, arith, length-take-le}
 use Rattle.std.proofs.lemmas.Bool.{false≢true}
 use Rattle.plans.specs.Plan.{Expr, Stmt, Sleep, If, While, Guard, Return, FailNow, Block, done, then, expr_size, size_of, stmt_size}
 use Rattle.plans.specs.Flat.{code_of, draft_stmt, draft_of}
@@ -20,6 +20,7 @@ use Rattle.text.specs.declared.Token.TheVariants as is
 use Rattle.text.specs.declared.Key.TheVariants as word
 use Rattle.reading.specs.declared.error.NoPlan.{NoPlan}
 use Rattle.reading.specs.declared.exprs.Cursor.{Cursor}
+use Rattle.reading.specs.declared.stmts.Beginning.{Beginning}
 use Rattle.reading.specs.declared.stmts.Beginning.TheVariants as begin
 use Rattle.reading.specs.Took.{Family, Took, found, Only, Bars, bars}
 use Rattle.reading.specs.Took as took
@@ -114,7 +115,7 @@ unfolding stmt_s
 by_variable v (Ok c) l m text pre ys h x = record { item = x.item; took = prefix (assign_at v) stmt_at (variable v) x.item x.item h x.took (λ us vs le g n i j q. g n i j q); words = x.words }
 by_variable v (Err e) l m text pre ys h x = prefix_bar (assign_at v) stmt_at (variable v) _ _ h x (λ us g n i j q. g n i j q)
 
-pub no_statement : (Big : Stmt → Type 0) (t : Token) (w : List ℕ) (l m : Lexed) → l ≡ both (means t w) m → (stops t ≡ true → m ≡ tokens []) → begins_at t ≡ begin.Nothing → Bars stmt_at Big l
+pub no_statement : (Big : Stmt → Type 0) (t : Token) (w : List ℕ) (l m : Lexed) → l ≡ both (means t w) m → (stops t ≡ true → m ≡ tokens []) → begins_at t ≡ None → Bars stmt_at Big l
 unfolding stmt_s key_s
 no_statement Big (is.Number n) w l m h s k = bar_token stmt_at Big (number n) l m h (λ us n i. tt)
 no_statement Big (is.Variable n) w l m h s k = let z : ◌≡◌ {A = ℕ} 0 1 = cc in absurd (omega arith)
@@ -143,221 +144,42 @@ no_statement Big (is.Key word.End) w l m h s k = bar_token stmt_at Big (key END)
 no_statement Big (is.Key word.Comma) w l m h s k = bar_token stmt_at Big (key COMMA) l m h (λ us n i. tt)
 
 -- which token begins a statement
-pub begins_set : (t : Token) → begins_at t ≡ begin.Set → t ≡ is.Key word.Set
-begins_set (is.Number n) h = let z : ◌≡◌ {A = ℕ} 0 1 = cc in absurd (omega arith)
-begins_set (is.Variable n) h = let z : ◌≡◌ {A = ℕ} 0 1 = cc in absurd (omega arith)
-begins_set is.Name h = let z : ◌≡◌ {A = ℕ} 0 1 = cc in absurd (omega arith)
-begins_set (is.Operator o) h = let z : ◌≡◌ {A = ℕ} 0 1 = cc in absurd (omega arith)
-begins_set is.Stop h = let z : ◌≡◌ {A = ℕ} 0 1 = cc in absurd (omega arith)
-begins_set is.Bad h = let z : ◌≡◌ {A = ℕ} 0 1 = cc in absurd (omega arith)
-begins_set (is.Key word.Set) h = refl
-begins_set (is.Key word.Do) h = let z : ◌≡◌ {A = ℕ} 0 1 = cc in absurd (omega arith)
-begins_set (is.Key word.Tries) h = let z : ◌≡◌ {A = ℕ} 0 1 = cc in absurd (omega arith)
-begins_set (is.Key word.Pause) h = let z : ◌≡◌ {A = ℕ} 0 1 = cc in absurd (omega arith)
-begins_set (is.Key word.Sleep) h = let z : ◌≡◌ {A = ℕ} 0 1 = cc in absurd (omega arith)
-begins_set (is.Key word.Hear) h = let z : ◌≡◌ {A = ℕ} 0 1 = cc in absurd (omega arith)
-begins_set (is.Key word.For) h = let z : ◌≡◌ {A = ℕ} 0 1 = cc in absurd (omega arith)
-begins_set (is.Key word.If) h = let z : ◌≡◌ {A = ℕ} 0 1 = cc in absurd (omega arith)
-begins_set (is.Key word.Else) h = let z : ◌≡◌ {A = ℕ} 0 1 = cc in absurd (omega arith)
-begins_set (is.Key word.While) h = let z : ◌≡◌ {A = ℕ} 0 1 = cc in absurd (omega arith)
-begins_set (is.Key word.Guard) h = let z : ◌≡◌ {A = ℕ} 0 1 = cc in absurd (omega arith)
-begins_set (is.Key word.Return) h = let z : ◌≡◌ {A = ℕ} 0 1 = cc in absurd (omega arith)
-begins_set (is.Key word.Fail) h = let z : ◌≡◌ {A = ℕ} 0 1 = cc in absurd (omega arith)
-begins_set (is.Key word.Not) h = let z : ◌≡◌ {A = ℕ} 0 1 = cc in absurd (omega arith)
-begins_set (is.Key word.Open) h = let z : ◌≡◌ {A = ℕ} 0 1 = cc in absurd (omega arith)
-begins_set (is.Key word.Close) h = let z : ◌≡◌ {A = ℕ} 0 1 = cc in absurd (omega arith)
-begins_set (is.Key word.Begin) h = let z : ◌≡◌ {A = ℕ} 0 1 = cc in absurd (omega arith)
-begins_set (is.Key word.End) h = let z : ◌≡◌ {A = ℕ} 0 1 = cc in absurd (omega arith)
-begins_set (is.Key word.Comma) h = let z : ◌≡◌ {A = ℕ} 0 1 = cc in absurd (omega arith)
+abbrev pub begun_by : Beginning → Token
+begun_by begin.Set = is.Key word.Set
+begun_by begin.Sleep = is.Key word.Sleep
+begun_by begin.If = is.Key word.If
+begun_by begin.While = is.Key word.While
+begun_by begin.Guard = is.Key word.Guard
+begun_by begin.Return = is.Key word.Return
+begun_by begin.Fail = is.Key word.Fail
+begun_by (begin.Variable v) = is.Variable v
 
-pub begins_sleep : (t : Token) → begins_at t ≡ begin.Sleep → t ≡ is.Key word.Sleep
-begins_sleep (is.Number n) h = let z : ◌≡◌ {A = ℕ} 0 1 = cc in absurd (omega arith)
-begins_sleep (is.Variable n) h = let z : ◌≡◌ {A = ℕ} 0 1 = cc in absurd (omega arith)
-begins_sleep is.Name h = let z : ◌≡◌ {A = ℕ} 0 1 = cc in absurd (omega arith)
-begins_sleep (is.Operator o) h = let z : ◌≡◌ {A = ℕ} 0 1 = cc in absurd (omega arith)
-begins_sleep is.Stop h = let z : ◌≡◌ {A = ℕ} 0 1 = cc in absurd (omega arith)
-begins_sleep is.Bad h = let z : ◌≡◌ {A = ℕ} 0 1 = cc in absurd (omega arith)
-begins_sleep (is.Key word.Set) h = let z : ◌≡◌ {A = ℕ} 0 1 = cc in absurd (omega arith)
-begins_sleep (is.Key word.Do) h = let z : ◌≡◌ {A = ℕ} 0 1 = cc in absurd (omega arith)
-begins_sleep (is.Key word.Tries) h = let z : ◌≡◌ {A = ℕ} 0 1 = cc in absurd (omega arith)
-begins_sleep (is.Key word.Pause) h = let z : ◌≡◌ {A = ℕ} 0 1 = cc in absurd (omega arith)
-begins_sleep (is.Key word.Sleep) h = refl
-begins_sleep (is.Key word.Hear) h = let z : ◌≡◌ {A = ℕ} 0 1 = cc in absurd (omega arith)
-begins_sleep (is.Key word.For) h = let z : ◌≡◌ {A = ℕ} 0 1 = cc in absurd (omega arith)
-begins_sleep (is.Key word.If) h = let z : ◌≡◌ {A = ℕ} 0 1 = cc in absurd (omega arith)
-begins_sleep (is.Key word.Else) h = let z : ◌≡◌ {A = ℕ} 0 1 = cc in absurd (omega arith)
-begins_sleep (is.Key word.While) h = let z : ◌≡◌ {A = ℕ} 0 1 = cc in absurd (omega arith)
-begins_sleep (is.Key word.Guard) h = let z : ◌≡◌ {A = ℕ} 0 1 = cc in absurd (omega arith)
-begins_sleep (is.Key word.Return) h = let z : ◌≡◌ {A = ℕ} 0 1 = cc in absurd (omega arith)
-begins_sleep (is.Key word.Fail) h = let z : ◌≡◌ {A = ℕ} 0 1 = cc in absurd (omega arith)
-begins_sleep (is.Key word.Not) h = let z : ◌≡◌ {A = ℕ} 0 1 = cc in absurd (omega arith)
-begins_sleep (is.Key word.Open) h = let z : ◌≡◌ {A = ℕ} 0 1 = cc in absurd (omega arith)
-begins_sleep (is.Key word.Close) h = let z : ◌≡◌ {A = ℕ} 0 1 = cc in absurd (omega arith)
-begins_sleep (is.Key word.Begin) h = let z : ◌≡◌ {A = ℕ} 0 1 = cc in absurd (omega arith)
-begins_sleep (is.Key word.End) h = let z : ◌≡◌ {A = ℕ} 0 1 = cc in absurd (omega arith)
-begins_sleep (is.Key word.Comma) h = let z : ◌≡◌ {A = ℕ} 0 1 = cc in absurd (omega arith)
-
-pub begins_if : (t : Token) → begins_at t ≡ begin.If → t ≡ is.Key word.If
-begins_if (is.Number n) h = let z : ◌≡◌ {A = ℕ} 0 1 = cc in absurd (omega arith)
-begins_if (is.Variable n) h = let z : ◌≡◌ {A = ℕ} 0 1 = cc in absurd (omega arith)
-begins_if is.Name h = let z : ◌≡◌ {A = ℕ} 0 1 = cc in absurd (omega arith)
-begins_if (is.Operator o) h = let z : ◌≡◌ {A = ℕ} 0 1 = cc in absurd (omega arith)
-begins_if is.Stop h = let z : ◌≡◌ {A = ℕ} 0 1 = cc in absurd (omega arith)
-begins_if is.Bad h = let z : ◌≡◌ {A = ℕ} 0 1 = cc in absurd (omega arith)
-begins_if (is.Key word.Set) h = let z : ◌≡◌ {A = ℕ} 0 1 = cc in absurd (omega arith)
-begins_if (is.Key word.Do) h = let z : ◌≡◌ {A = ℕ} 0 1 = cc in absurd (omega arith)
-begins_if (is.Key word.Tries) h = let z : ◌≡◌ {A = ℕ} 0 1 = cc in absurd (omega arith)
-begins_if (is.Key word.Pause) h = let z : ◌≡◌ {A = ℕ} 0 1 = cc in absurd (omega arith)
-begins_if (is.Key word.Sleep) h = let z : ◌≡◌ {A = ℕ} 0 1 = cc in absurd (omega arith)
-begins_if (is.Key word.Hear) h = let z : ◌≡◌ {A = ℕ} 0 1 = cc in absurd (omega arith)
-begins_if (is.Key word.For) h = let z : ◌≡◌ {A = ℕ} 0 1 = cc in absurd (omega arith)
-begins_if (is.Key word.If) h = refl
-begins_if (is.Key word.Else) h = let z : ◌≡◌ {A = ℕ} 0 1 = cc in absurd (omega arith)
-begins_if (is.Key word.While) h = let z : ◌≡◌ {A = ℕ} 0 1 = cc in absurd (omega arith)
-begins_if (is.Key word.Guard) h = let z : ◌≡◌ {A = ℕ} 0 1 = cc in absurd (omega arith)
-begins_if (is.Key word.Return) h = let z : ◌≡◌ {A = ℕ} 0 1 = cc in absurd (omega arith)
-begins_if (is.Key word.Fail) h = let z : ◌≡◌ {A = ℕ} 0 1 = cc in absurd (omega arith)
-begins_if (is.Key word.Not) h = let z : ◌≡◌ {A = ℕ} 0 1 = cc in absurd (omega arith)
-begins_if (is.Key word.Open) h = let z : ◌≡◌ {A = ℕ} 0 1 = cc in absurd (omega arith)
-begins_if (is.Key word.Close) h = let z : ◌≡◌ {A = ℕ} 0 1 = cc in absurd (omega arith)
-begins_if (is.Key word.Begin) h = let z : ◌≡◌ {A = ℕ} 0 1 = cc in absurd (omega arith)
-begins_if (is.Key word.End) h = let z : ◌≡◌ {A = ℕ} 0 1 = cc in absurd (omega arith)
-begins_if (is.Key word.Comma) h = let z : ◌≡◌ {A = ℕ} 0 1 = cc in absurd (omega arith)
-
-pub begins_while : (t : Token) → begins_at t ≡ begin.While → t ≡ is.Key word.While
-begins_while (is.Number n) h = let z : ◌≡◌ {A = ℕ} 0 1 = cc in absurd (omega arith)
-begins_while (is.Variable n) h = let z : ◌≡◌ {A = ℕ} 0 1 = cc in absurd (omega arith)
-begins_while is.Name h = let z : ◌≡◌ {A = ℕ} 0 1 = cc in absurd (omega arith)
-begins_while (is.Operator o) h = let z : ◌≡◌ {A = ℕ} 0 1 = cc in absurd (omega arith)
-begins_while is.Stop h = let z : ◌≡◌ {A = ℕ} 0 1 = cc in absurd (omega arith)
-begins_while is.Bad h = let z : ◌≡◌ {A = ℕ} 0 1 = cc in absurd (omega arith)
-begins_while (is.Key word.Set) h = let z : ◌≡◌ {A = ℕ} 0 1 = cc in absurd (omega arith)
-begins_while (is.Key word.Do) h = let z : ◌≡◌ {A = ℕ} 0 1 = cc in absurd (omega arith)
-begins_while (is.Key word.Tries) h = let z : ◌≡◌ {A = ℕ} 0 1 = cc in absurd (omega arith)
-begins_while (is.Key word.Pause) h = let z : ◌≡◌ {A = ℕ} 0 1 = cc in absurd (omega arith)
-begins_while (is.Key word.Sleep) h = let z : ◌≡◌ {A = ℕ} 0 1 = cc in absurd (omega arith)
-begins_while (is.Key word.Hear) h = let z : ◌≡◌ {A = ℕ} 0 1 = cc in absurd (omega arith)
-begins_while (is.Key word.For) h = let z : ◌≡◌ {A = ℕ} 0 1 = cc in absurd (omega arith)
-begins_while (is.Key word.If) h = let z : ◌≡◌ {A = ℕ} 0 1 = cc in absurd (omega arith)
-begins_while (is.Key word.Else) h = let z : ◌≡◌ {A = ℕ} 0 1 = cc in absurd (omega arith)
-begins_while (is.Key word.While) h = refl
-begins_while (is.Key word.Guard) h = let z : ◌≡◌ {A = ℕ} 0 1 = cc in absurd (omega arith)
-begins_while (is.Key word.Return) h = let z : ◌≡◌ {A = ℕ} 0 1 = cc in absurd (omega arith)
-begins_while (is.Key word.Fail) h = let z : ◌≡◌ {A = ℕ} 0 1 = cc in absurd (omega arith)
-begins_while (is.Key word.Not) h = let z : ◌≡◌ {A = ℕ} 0 1 = cc in absurd (omega arith)
-begins_while (is.Key word.Open) h = let z : ◌≡◌ {A = ℕ} 0 1 = cc in absurd (omega arith)
-begins_while (is.Key word.Close) h = let z : ◌≡◌ {A = ℕ} 0 1 = cc in absurd (omega arith)
-begins_while (is.Key word.Begin) h = let z : ◌≡◌ {A = ℕ} 0 1 = cc in absurd (omega arith)
-begins_while (is.Key word.End) h = let z : ◌≡◌ {A = ℕ} 0 1 = cc in absurd (omega arith)
-begins_while (is.Key word.Comma) h = let z : ◌≡◌ {A = ℕ} 0 1 = cc in absurd (omega arith)
-
-pub begins_guard : (t : Token) → begins_at t ≡ begin.Guard → t ≡ is.Key word.Guard
-begins_guard (is.Number n) h = let z : ◌≡◌ {A = ℕ} 0 1 = cc in absurd (omega arith)
-begins_guard (is.Variable n) h = let z : ◌≡◌ {A = ℕ} 0 1 = cc in absurd (omega arith)
-begins_guard is.Name h = let z : ◌≡◌ {A = ℕ} 0 1 = cc in absurd (omega arith)
-begins_guard (is.Operator o) h = let z : ◌≡◌ {A = ℕ} 0 1 = cc in absurd (omega arith)
-begins_guard is.Stop h = let z : ◌≡◌ {A = ℕ} 0 1 = cc in absurd (omega arith)
-begins_guard is.Bad h = let z : ◌≡◌ {A = ℕ} 0 1 = cc in absurd (omega arith)
-begins_guard (is.Key word.Set) h = let z : ◌≡◌ {A = ℕ} 0 1 = cc in absurd (omega arith)
-begins_guard (is.Key word.Do) h = let z : ◌≡◌ {A = ℕ} 0 1 = cc in absurd (omega arith)
-begins_guard (is.Key word.Tries) h = let z : ◌≡◌ {A = ℕ} 0 1 = cc in absurd (omega arith)
-begins_guard (is.Key word.Pause) h = let z : ◌≡◌ {A = ℕ} 0 1 = cc in absurd (omega arith)
-begins_guard (is.Key word.Sleep) h = let z : ◌≡◌ {A = ℕ} 0 1 = cc in absurd (omega arith)
-begins_guard (is.Key word.Hear) h = let z : ◌≡◌ {A = ℕ} 0 1 = cc in absurd (omega arith)
-begins_guard (is.Key word.For) h = let z : ◌≡◌ {A = ℕ} 0 1 = cc in absurd (omega arith)
-begins_guard (is.Key word.If) h = let z : ◌≡◌ {A = ℕ} 0 1 = cc in absurd (omega arith)
-begins_guard (is.Key word.Else) h = let z : ◌≡◌ {A = ℕ} 0 1 = cc in absurd (omega arith)
-begins_guard (is.Key word.While) h = let z : ◌≡◌ {A = ℕ} 0 1 = cc in absurd (omega arith)
-begins_guard (is.Key word.Guard) h = refl
-begins_guard (is.Key word.Return) h = let z : ◌≡◌ {A = ℕ} 0 1 = cc in absurd (omega arith)
-begins_guard (is.Key word.Fail) h = let z : ◌≡◌ {A = ℕ} 0 1 = cc in absurd (omega arith)
-begins_guard (is.Key word.Not) h = let z : ◌≡◌ {A = ℕ} 0 1 = cc in absurd (omega arith)
-begins_guard (is.Key word.Open) h = let z : ◌≡◌ {A = ℕ} 0 1 = cc in absurd (omega arith)
-begins_guard (is.Key word.Close) h = let z : ◌≡◌ {A = ℕ} 0 1 = cc in absurd (omega arith)
-begins_guard (is.Key word.Begin) h = let z : ◌≡◌ {A = ℕ} 0 1 = cc in absurd (omega arith)
-begins_guard (is.Key word.End) h = let z : ◌≡◌ {A = ℕ} 0 1 = cc in absurd (omega arith)
-begins_guard (is.Key word.Comma) h = let z : ◌≡◌ {A = ℕ} 0 1 = cc in absurd (omega arith)
-
-pub begins_return : (t : Token) → begins_at t ≡ begin.Return → t ≡ is.Key word.Return
-begins_return (is.Number n) h = let z : ◌≡◌ {A = ℕ} 0 1 = cc in absurd (omega arith)
-begins_return (is.Variable n) h = let z : ◌≡◌ {A = ℕ} 0 1 = cc in absurd (omega arith)
-begins_return is.Name h = let z : ◌≡◌ {A = ℕ} 0 1 = cc in absurd (omega arith)
-begins_return (is.Operator o) h = let z : ◌≡◌ {A = ℕ} 0 1 = cc in absurd (omega arith)
-begins_return is.Stop h = let z : ◌≡◌ {A = ℕ} 0 1 = cc in absurd (omega arith)
-begins_return is.Bad h = let z : ◌≡◌ {A = ℕ} 0 1 = cc in absurd (omega arith)
-begins_return (is.Key word.Set) h = let z : ◌≡◌ {A = ℕ} 0 1 = cc in absurd (omega arith)
-begins_return (is.Key word.Do) h = let z : ◌≡◌ {A = ℕ} 0 1 = cc in absurd (omega arith)
-begins_return (is.Key word.Tries) h = let z : ◌≡◌ {A = ℕ} 0 1 = cc in absurd (omega arith)
-begins_return (is.Key word.Pause) h = let z : ◌≡◌ {A = ℕ} 0 1 = cc in absurd (omega arith)
-begins_return (is.Key word.Sleep) h = let z : ◌≡◌ {A = ℕ} 0 1 = cc in absurd (omega arith)
-begins_return (is.Key word.Hear) h = let z : ◌≡◌ {A = ℕ} 0 1 = cc in absurd (omega arith)
-begins_return (is.Key word.For) h = let z : ◌≡◌ {A = ℕ} 0 1 = cc in absurd (omega arith)
-begins_return (is.Key word.If) h = let z : ◌≡◌ {A = ℕ} 0 1 = cc in absurd (omega arith)
-begins_return (is.Key word.Else) h = let z : ◌≡◌ {A = ℕ} 0 1 = cc in absurd (omega arith)
-begins_return (is.Key word.While) h = let z : ◌≡◌ {A = ℕ} 0 1 = cc in absurd (omega arith)
-begins_return (is.Key word.Guard) h = let z : ◌≡◌ {A = ℕ} 0 1 = cc in absurd (omega arith)
-begins_return (is.Key word.Return) h = refl
-begins_return (is.Key word.Fail) h = let z : ◌≡◌ {A = ℕ} 0 1 = cc in absurd (omega arith)
-begins_return (is.Key word.Not) h = let z : ◌≡◌ {A = ℕ} 0 1 = cc in absurd (omega arith)
-begins_return (is.Key word.Open) h = let z : ◌≡◌ {A = ℕ} 0 1 = cc in absurd (omega arith)
-begins_return (is.Key word.Close) h = let z : ◌≡◌ {A = ℕ} 0 1 = cc in absurd (omega arith)
-begins_return (is.Key word.Begin) h = let z : ◌≡◌ {A = ℕ} 0 1 = cc in absurd (omega arith)
-begins_return (is.Key word.End) h = let z : ◌≡◌ {A = ℕ} 0 1 = cc in absurd (omega arith)
-begins_return (is.Key word.Comma) h = let z : ◌≡◌ {A = ℕ} 0 1 = cc in absurd (omega arith)
-
-pub begins_fail : (t : Token) → begins_at t ≡ begin.Fail → t ≡ is.Key word.Fail
-begins_fail (is.Number n) h = let z : ◌≡◌ {A = ℕ} 0 1 = cc in absurd (omega arith)
-begins_fail (is.Variable n) h = let z : ◌≡◌ {A = ℕ} 0 1 = cc in absurd (omega arith)
-begins_fail is.Name h = let z : ◌≡◌ {A = ℕ} 0 1 = cc in absurd (omega arith)
-begins_fail (is.Operator o) h = let z : ◌≡◌ {A = ℕ} 0 1 = cc in absurd (omega arith)
-begins_fail is.Stop h = let z : ◌≡◌ {A = ℕ} 0 1 = cc in absurd (omega arith)
-begins_fail is.Bad h = let z : ◌≡◌ {A = ℕ} 0 1 = cc in absurd (omega arith)
-begins_fail (is.Key word.Set) h = let z : ◌≡◌ {A = ℕ} 0 1 = cc in absurd (omega arith)
-begins_fail (is.Key word.Do) h = let z : ◌≡◌ {A = ℕ} 0 1 = cc in absurd (omega arith)
-begins_fail (is.Key word.Tries) h = let z : ◌≡◌ {A = ℕ} 0 1 = cc in absurd (omega arith)
-begins_fail (is.Key word.Pause) h = let z : ◌≡◌ {A = ℕ} 0 1 = cc in absurd (omega arith)
-begins_fail (is.Key word.Sleep) h = let z : ◌≡◌ {A = ℕ} 0 1 = cc in absurd (omega arith)
-begins_fail (is.Key word.Hear) h = let z : ◌≡◌ {A = ℕ} 0 1 = cc in absurd (omega arith)
-begins_fail (is.Key word.For) h = let z : ◌≡◌ {A = ℕ} 0 1 = cc in absurd (omega arith)
-begins_fail (is.Key word.If) h = let z : ◌≡◌ {A = ℕ} 0 1 = cc in absurd (omega arith)
-begins_fail (is.Key word.Else) h = let z : ◌≡◌ {A = ℕ} 0 1 = cc in absurd (omega arith)
-begins_fail (is.Key word.While) h = let z : ◌≡◌ {A = ℕ} 0 1 = cc in absurd (omega arith)
-begins_fail (is.Key word.Guard) h = let z : ◌≡◌ {A = ℕ} 0 1 = cc in absurd (omega arith)
-begins_fail (is.Key word.Return) h = let z : ◌≡◌ {A = ℕ} 0 1 = cc in absurd (omega arith)
-begins_fail (is.Key word.Fail) h = refl
-begins_fail (is.Key word.Not) h = let z : ◌≡◌ {A = ℕ} 0 1 = cc in absurd (omega arith)
-begins_fail (is.Key word.Open) h = let z : ◌≡◌ {A = ℕ} 0 1 = cc in absurd (omega arith)
-begins_fail (is.Key word.Close) h = let z : ◌≡◌ {A = ℕ} 0 1 = cc in absurd (omega arith)
-begins_fail (is.Key word.Begin) h = let z : ◌≡◌ {A = ℕ} 0 1 = cc in absurd (omega arith)
-begins_fail (is.Key word.End) h = let z : ◌≡◌ {A = ℕ} 0 1 = cc in absurd (omega arith)
-begins_fail (is.Key word.Comma) h = let z : ◌≡◌ {A = ℕ} 0 1 = cc in absurd (omega arith)
-
-pub begins_variable_lem : (t : Token) (v : ℕ) → begins_at t ≡ begin.Variable v → t ≡ is.Variable v
-begins_variable_lem (is.Number n) v h = let z : ◌≡◌ {A = ℕ} 0 1 = cc in absurd (omega arith)
-begins_variable_lem is.Name v h = let z : ◌≡◌ {A = ℕ} 0 1 = cc in absurd (omega arith)
-begins_variable_lem (is.Operator o) v h = let z : ◌≡◌ {A = ℕ} 0 1 = cc in absurd (omega arith)
-begins_variable_lem is.Stop v h = let z : ◌≡◌ {A = ℕ} 0 1 = cc in absurd (omega arith)
-begins_variable_lem is.Bad v h = let z : ◌≡◌ {A = ℕ} 0 1 = cc in absurd (omega arith)
-begins_variable_lem (is.Key word.Set) v h = let z : ◌≡◌ {A = ℕ} 0 1 = cc in absurd (omega arith)
-begins_variable_lem (is.Key word.Do) v h = let z : ◌≡◌ {A = ℕ} 0 1 = cc in absurd (omega arith)
-begins_variable_lem (is.Key word.Tries) v h = let z : ◌≡◌ {A = ℕ} 0 1 = cc in absurd (omega arith)
-begins_variable_lem (is.Key word.Pause) v h = let z : ◌≡◌ {A = ℕ} 0 1 = cc in absurd (omega arith)
-begins_variable_lem (is.Key word.Sleep) v h = let z : ◌≡◌ {A = ℕ} 0 1 = cc in absurd (omega arith)
-begins_variable_lem (is.Key word.Hear) v h = let z : ◌≡◌ {A = ℕ} 0 1 = cc in absurd (omega arith)
-begins_variable_lem (is.Key word.For) v h = let z : ◌≡◌ {A = ℕ} 0 1 = cc in absurd (omega arith)
-begins_variable_lem (is.Key word.If) v h = let z : ◌≡◌ {A = ℕ} 0 1 = cc in absurd (omega arith)
-begins_variable_lem (is.Key word.Else) v h = let z : ◌≡◌ {A = ℕ} 0 1 = cc in absurd (omega arith)
-begins_variable_lem (is.Key word.While) v h = let z : ◌≡◌ {A = ℕ} 0 1 = cc in absurd (omega arith)
-begins_variable_lem (is.Key word.Guard) v h = let z : ◌≡◌ {A = ℕ} 0 1 = cc in absurd (omega arith)
-begins_variable_lem (is.Key word.Return) v h = let z : ◌≡◌ {A = ℕ} 0 1 = cc in absurd (omega arith)
-begins_variable_lem (is.Key word.Fail) v h = let z : ◌≡◌ {A = ℕ} 0 1 = cc in absurd (omega arith)
-begins_variable_lem (is.Key word.Not) v h = let z : ◌≡◌ {A = ℕ} 0 1 = cc in absurd (omega arith)
-begins_variable_lem (is.Key word.Open) v h = let z : ◌≡◌ {A = ℕ} 0 1 = cc in absurd (omega arith)
-begins_variable_lem (is.Key word.Close) v h = let z : ◌≡◌ {A = ℕ} 0 1 = cc in absurd (omega arith)
-begins_variable_lem (is.Key word.Begin) v h = let z : ◌≡◌ {A = ℕ} 0 1 = cc in absurd (omega arith)
-begins_variable_lem (is.Key word.End) v h = let z : ◌≡◌ {A = ℕ} 0 1 = cc in absurd (omega arith)
-begins_variable_lem (is.Key word.Comma) v h = let z : ◌≡◌ {A = ℕ} 0 1 = cc in absurd (omega arith)
-begins_variable_lem (is.Variable x) v h = let e : x ≡ v = cc in ap is.Variable e
+pub begins_is : (t : Token) (b : Beginning) → begins_at t ≡ Some b → t ≡ begun_by b
+begins_is (is.Number n) b h = let z : ◌≡◌ {A = ℕ} 0 1 = cc in absurd (omega arith)
+begins_is (is.Variable v) b h = let e : begin.Variable v ≡ b = cc in ap begun_by e
+begins_is is.Name b h = let z : ◌≡◌ {A = ℕ} 0 1 = cc in absurd (omega arith)
+begins_is (is.Operator o) b h = let z : ◌≡◌ {A = ℕ} 0 1 = cc in absurd (omega arith)
+begins_is is.Stop b h = let z : ◌≡◌ {A = ℕ} 0 1 = cc in absurd (omega arith)
+begins_is is.Bad b h = let z : ◌≡◌ {A = ℕ} 0 1 = cc in absurd (omega arith)
+begins_is (is.Key word.Set) b h = let e : begin.Set ≡ b = cc in ap begun_by e
+begins_is (is.Key word.Do) b h = let z : ◌≡◌ {A = ℕ} 0 1 = cc in absurd (omega arith)
+begins_is (is.Key word.Tries) b h = let z : ◌≡◌ {A = ℕ} 0 1 = cc in absurd (omega arith)
+begins_is (is.Key word.Pause) b h = let z : ◌≡◌ {A = ℕ} 0 1 = cc in absurd (omega arith)
+begins_is (is.Key word.Sleep) b h = let e : begin.Sleep ≡ b = cc in ap begun_by e
+begins_is (is.Key word.Hear) b h = let z : ◌≡◌ {A = ℕ} 0 1 = cc in absurd (omega arith)
+begins_is (is.Key word.For) b h = let z : ◌≡◌ {A = ℕ} 0 1 = cc in absurd (omega arith)
+begins_is (is.Key word.If) b h = let e : begin.If ≡ b = cc in ap begun_by e
+begins_is (is.Key word.Else) b h = let z : ◌≡◌ {A = ℕ} 0 1 = cc in absurd (omega arith)
+begins_is (is.Key word.While) b h = let e : begin.While ≡ b = cc in ap begun_by e
+begins_is (is.Key word.Guard) b h = let e : begin.Guard ≡ b = cc in ap begun_by e
+begins_is (is.Key word.Return) b h = let e : begin.Return ≡ b = cc in ap begun_by e
+begins_is (is.Key word.Fail) b h = let e : begin.Fail ≡ b = cc in ap begun_by e
+begins_is (is.Key word.Not) b h = let z : ◌≡◌ {A = ℕ} 0 1 = cc in absurd (omega arith)
+begins_is (is.Key word.Open) b h = let z : ◌≡◌ {A = ℕ} 0 1 = cc in absurd (omega arith)
+begins_is (is.Key word.Close) b h = let z : ◌≡◌ {A = ℕ} 0 1 = cc in absurd (omega arith)
+begins_is (is.Key word.Begin) b h = let z : ◌≡◌ {A = ℕ} 0 1 = cc in absurd (omega arith)
+begins_is (is.Key word.End) b h = let z : ◌≡◌ {A = ℕ} 0 1 = cc in absurd (omega arith)
+begins_is (is.Key word.Comma) b h = let z : ◌≡◌ {A = ℕ} 0 1 = cc in absurd (omega arith)
 
 pub at_token : (t u : Token) (w : List ℕ) (l m : Lexed) → l ≡ both (means t w) m → t ≡ u → l ≡ both (means u w) m
 at_token t u w l m h e = h ∙ ap (λ (x : Token). both (means x w) m) e

@@ -1,7 +1,7 @@
 -- Tasks and hearings against the reader of tokens.
-use Rattle.std.proofs.Common.{◌≡◌, ℕ, zero, suc, ◌+◌, ◌-◌, ◌*◌, ◌/◌, ◌<◌, ◌≤◌, Bool, true, false, cond, not, ◌&&◌, eqb, ltb, leb, ◌⊎◌, List, [], ◌∷◌, ◌++◌, length, get_or, take, drop, set, replicate, Ok, Err, Result, sym, refl, ap, ◌∙◌, subst, inl, inr, append_assoc, append-nil, le_trans, le_refl, arith, length-append, length-drop, length-take-le}
+use Rattle.std.proofs.Common.{◌≡◌, ℕ, zero, suc, ◌+◌, ◌-◌, ◌*◌, ◌/◌, ◌<◌, ◌≤◌, Bool, true, false, cond, not, ◌&&◌, eqb, ltb, ltb-true, leb, ◌⊎◌, List, [], ◌∷◌, ◌++◌, length, get_or, take, drop, set, replicate, Ok, Err, Result, sym, refl, ap, ◌∙◌, subst, inl, inr, append_assoc, append-nil, le_trans, le_refl, arith, length-append, length-drop, length-take-le}
 use lib.Seq.{take-append-le, take-append-add}
-use Rattle.std.proofs.lemmas.List.{take-take, drop-take, drop_at, set_at, take_more, drop_more, get_or-take, get_or_append_left, get_or-append_right, get_or-replicate}
+use Rattle.std.proofs.lemmas.List.{get_or_past, take-take, drop-take, drop_at, set_at, take_more, drop_more, get_or-take, get_or_append_left, get_or-append_right, get_or-replicate}
 use Rattle.std.proofs.lemmas.Bool.{false≢true}
 use Rattle.std.proofs.lemmas.Bool.Decides.{nat_tests}
 use Rattle.plans.specs.Plan.{Name, Expr, Stmt, Do, Hear, expr_size, sizes, stmt_size}
@@ -25,7 +25,7 @@ use Rattle.reading.specs.Took as took
 use Rattle.reading.specs.Tokens.{one_key, one_same, one_number, one_variable, one_name}
 use Rattle.reading.specs.Levels.{NoRoom}
 use Rattle.reading.specs.Statements.{put4, Large, ReadStmt, whole_expr, front_open, front_kind, front_at, Times, back_pause, back_then, back_tries, back_at, times_ok, args_at, list_at, task_done, task_args, task_kind, task_at, Heard, heard_for, heard_name, heard_hear, heard_same, heard_at, hear_done, hear_for, hear_at, assign_at}
-use Rattle.reading.specs.Tasks.{closes_at, Many, ReadArgs, ArgsOn, named}
+use Rattle.reading.specs.Tasks.{Many, ReadArgs, ArgsOn, named}
 use Rattle.reading.proofs.Chains.{rename, only_then, only_at_lem, and_at}
 use Rattle.reading.proofs.Fours.{head_words, four_length}
 use Rattle.reading.proofs.Taking.{take_token}
@@ -110,37 +110,10 @@ pub list_close : (l m : Lexed) → l ≡ both (tokens (key CLOSE ∷ [])) m → 
 unfolding list_s parser.closes after parser.code_of
 list_close l m h = take_token list_at [] (key CLOSE) l m h (λ us n i. refl)
 
-pub close_token : (t : Token) → closes_at t ≡ true → t ≡ is.Key word.Close
-close_token (is.Number n) h = absurd (false≢true h)
-close_token (is.Variable n) h = absurd (false≢true h)
-close_token is.Name h = absurd (false≢true h)
-close_token (is.Operator o) h = absurd (false≢true h)
-close_token is.Stop h = absurd (false≢true h)
-close_token is.Bad h = absurd (false≢true h)
-close_token (is.Key word.Set) h = absurd (false≢true h)
-close_token (is.Key word.Do) h = absurd (false≢true h)
-close_token (is.Key word.Tries) h = absurd (false≢true h)
-close_token (is.Key word.Pause) h = absurd (false≢true h)
-close_token (is.Key word.Sleep) h = absurd (false≢true h)
-close_token (is.Key word.Hear) h = absurd (false≢true h)
-close_token (is.Key word.For) h = absurd (false≢true h)
-close_token (is.Key word.If) h = absurd (false≢true h)
-close_token (is.Key word.Else) h = absurd (false≢true h)
-close_token (is.Key word.While) h = absurd (false≢true h)
-close_token (is.Key word.Guard) h = absurd (false≢true h)
-close_token (is.Key word.Return) h = absurd (false≢true h)
-close_token (is.Key word.Fail) h = absurd (false≢true h)
-close_token (is.Key word.Not) h = absurd (false≢true h)
-close_token (is.Key word.Open) h = absurd (false≢true h)
-close_token (is.Key word.Close) h = refl
-close_token (is.Key word.Begin) h = absurd (false≢true h)
-close_token (is.Key word.End) h = absurd (false≢true h)
-close_token (is.Key word.Comma) h = absurd (false≢true h)
-
 abbrev Open : List token.Token → Type 0
 Open ts = parser.closes ts ≡ false
 
-pub still_open : (t : Token) (w : List ℕ) (l m : Lexed) → l ≡ both (means t w) m → (stops t ≡ true → m ≡ tokens []) → closes_at t ≡ false → (ts : List token.Token) → l ≡ tokens ts → parser.closes ts ≡ false
+pub still_open : (t : Token) (w : List ℕ) (l m : Lexed) → l ≡ both (means t w) m → (stops t ≡ true → m ≡ tokens []) → (t ≡ is.Key word.Close → ⊥) → (ts : List token.Token) → l ≡ tokens ts → parser.closes ts ≡ false
 unfolding parser.closes parser.code_of
 still_open (is.Number n) w l m h s e ts x = head_is Open (number n) l m ts h x (λ us. refl)
 still_open (is.Variable n) w l m h s e ts x = head_is Open (variable n) l m ts h x (λ us. refl)
@@ -163,7 +136,7 @@ still_open (is.Key word.Return) w l m h s e ts x = head_is Open (key token.RETUR
 still_open (is.Key word.Fail) w l m h s e ts x = head_is Open (key token.FAIL) l m ts h x (λ us. refl)
 still_open (is.Key word.Not) w l m h s e ts x = head_is Open (key token.NOT) l m ts h x (λ us. refl)
 still_open (is.Key word.Open) w l m h s e ts x = head_is Open (key token.OPEN) l m ts h x (λ us. refl)
-still_open (is.Key word.Close) w l m h s e ts x = absurd (false≢true (sym e))
+still_open (is.Key word.Close) w l m h s e ts x = absurd (e refl)
 still_open (is.Key word.Begin) w l m h s e ts x = head_is Open (key token.BEGIN) l m ts h x (λ us. refl)
 still_open (is.Key word.End) w l m h s e ts x = head_is Open (key token.END) l m ts h x (λ us. refl)
 still_open (is.Key word.Comma) w l m h s e ts x = head_is Open (key token.COMMA) l m ts h x (λ us. refl)
@@ -521,13 +494,20 @@ hear_words xs ys len m v w u n e h le lim same is =
     head_words xs (named ys (len + 4) n) (padded n ++ code_of e) len m 4 v u w q.0 (omega arith) q.1 (omega arith) ∙ (rw eu refl)
 
 -- writing a name, letter by letter
-pub name_letter : (n : Name) (i : ℕ) → i < 64 → i < length n → get_or (padded n) i 0 ≡ get_or n i 0
+name_letter : (n : Name) (i : ℕ) → i < 64 → i < length n → get_or (padded n) i 0 ≡ get_or n i 0
 unfolding padded
 name_letter n i h k = get_or-take 64 (n ++ replicate 64 0) i 0 h ∙ get_or_append_left n (replicate 64 0) 0 i k
 
-pub name_zero : (n : Name) (i : ℕ) → i < 64 → length n ≤ i → get_or (padded n) i 0 ≡ 0
+name_zero : (n : Name) (i : ℕ) → i < 64 → length n ≤ i → get_or (padded n) i 0 ≡ 0
 unfolding padded
 name_zero n i h k = get_or-take 64 (n ++ replicate 64 0) i 0 h ∙ (get_or-append_right n (replicate 64 0) (length n) i 0 refl k ∙ get_or-replicate 64 (i - length n) 0 0 (omega arith))
+
+pub name_at : (n : Name) (i : ℕ) → i < 64 → get_or n i 0 ≡ get_or (padded n) i 0
+name_at n i h = go (ltb i (length n)) refl
+  where
+    go : (b : Bool) → ltb i (length n) ≡ b → get_or n i 0 ≡ get_or (padded n) i 0
+    go true e = sym (name_letter n i h (ltb-true i (length n) e))
+    go false e = let past : length n ≤ i = grind (arith, nat_tests) in get_or_past n i 0 past ∙ sym (name_zero n i h past)
 
 pub name_turn : (xs ps : List ℕ) (at i x : ℕ) → at + i < length xs → i < length ps → x ≡ get_or ps i 0 → set (take at xs ++ (take i ps ++ drop (at + i) xs)) (at + i) x ≡ take at xs ++ (take (i + 1) ps ++ drop (at + (i + 1)) xs)
 name_turn xs ps at i x h k e =

@@ -1,5 +1,5 @@
 -- From a part that is the whole text to the plan.
-use Rattle.std.proofs.Common.{◌≡◌, ℕ, suc, ◌-◌, ◌*◌, ◌/◌, ◌<◌, ◌≤◌, true, false, leb, List, [], ◌∷◌, length, take, Ok, Err, Result, refl, ap, ◌∙◌, le_refl, arith}
+use Rattle.std.proofs.Common.{◌≡◌, ℕ, suc, ◌-◌, ◌*◌, ◌/◌, ◌<◌, ◌≤◌, true, false, leb, List, [], ◌∷◌, length, take, Err, refl, ap, ◌∙◌, le_refl, arith}
 use Rattle.std.proofs.lemmas.Bool.Decides.{nat_tests}
 use Rattle.plans.specs.Plan.{Block, size_of}
 use Rattle.plans.specs.Flat.{draft_of, Nowhere, laid}
@@ -16,9 +16,11 @@ use Rattle.text.specs.declared.Token.TheVariants as is
 use Rattle.reading.specs.Took.{Family, Took, found, Only, Bars, bars}
 use Rattle.reading.specs.Took as took
 use Rattle.reading.specs.Statements.{part_at, Large}
-use Rattle.reading.specs.declared.error.ReadError.{ReadError}
-use Rattle.reading.specs.declared.error.ReadError.TheVariants.{NotPlan, NoRoom, ShortDraft}
-use Rattle.reading.specs.Plans.{IsRead, Writes, Reads}
+use Rattle.plans.specs.declared.link.LinkError.{LinkError}
+use Rattle.plans.specs.declared.link.LinkError.TheVariants as link
+use Rattle.plans.specs.Sheet.{Written}
+use Rattle.reading.specs.Errors.{unlinked}
+use Rattle.reading.specs.Plans.{IsRead, Reads}
 use Rattle.reading.proofs.Fours.{long_as}
 use Rattle.reading.proofs.Leveled.{head_is}
 
@@ -127,9 +129,7 @@ is_read text ys b pos n t w k h long lim x words a s f =
 pub not_text : (text : List ℕ) → read_text 65536 text ≡ nothing → (b : Block) → IsText 65536 text b → ⊥
 not_text text h b x = let e = read_complete 65536 text b x in let z : ◌≡◌ {A = ℕ} 0 1 = cc in omega arith
 
-pub reads_of : {S : Type 0} (wrote : S → ℕ → S → Type 0) (room : S → ℕ) (r : Result ℕ ReadError) (text draft : List ℕ) (size : ℕ) (n : ℕ) (s t : S) → (i : IsRead text size draft) → Writes wrote room r size s (laid i.block) t → Reads wrote room r text n s t
+pub reads_refused : {S : Type 0} (wrote : S → ℕ → S → Type 0) (room : S → ℕ) (e : LinkError) (text draft : List ℕ) (size n : ℕ) (s t : S) → (i : IsRead text size draft) → Written wrote room (Err e) s (laid i.block) t → Reads wrote room (Err (unlinked e)) text n s t
 unfolding laid
-reads_of wrote room (Ok m) text draft size n s t i h = (i.block, read_sound 65536 text i.block i.read, h.0 ∙ i.sized, h.1)
-reads_of wrote room (Err (NotPlan e)) text draft size n s t i h = absurd h
-reads_of wrote room (Err NoRoom) text draft size n s t i h = (i.block, read_sound 65536 text i.block i.read, (let l = lay_length i.block 0 (4 * size_of i.block - 3) Nowhere 0 in omega arith))
-reads_of wrote room (Err ShortDraft) text draft size n s t i h = absurd h
+reads_refused wrote room link.NoRoom text draft size n s t i h = (i.block, read_sound 65536 text i.block i.read, (let l = lay_length i.block 0 (4 * size_of i.block - 3) Nowhere 0 in omega arith))
+reads_refused wrote room link.Damaged text draft size n s t i h = absurd h

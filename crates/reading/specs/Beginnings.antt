@@ -1,5 +1,5 @@
 -- How statements begin and parts end. Assumes nothing.
-use Rattle.std.specs.Prelude.{◌≡◌, ℕ, ◌+◌, ◌<◌, ◌≤◌, Bool, true, false, List, [], ◌∷◌, ◌++◌, length, take, Ok, Err, Result}
+use Rattle.std.specs.Prelude.{◌≡◌, ℕ, ◌+◌, ◌<◌, ◌≤◌, Bool, true, false, List, [], ◌∷◌, ◌++◌, length, take, Some, None, Option, Ok, Err, Result}
 use Rattle.text.specs.declared.Token.{Token}
 use Rattle.text.specs.declared.Token.TheVariants as is
 use Rattle.text.specs.declared.Key.{Key}
@@ -9,35 +9,35 @@ use Rattle.reading.specs.declared.exprs.Cursor.{Cursor}
 use Rattle.reading.specs.declared.stmts.Beginning.{Beginning}
 use Rattle.reading.specs.declared.stmts.Beginning.TheVariants as begin
 
-abbrev pub key_begins : Key → Beginning
-key_begins word.Set = begin.Set
-key_begins word.Do = begin.Nothing
-key_begins word.Tries = begin.Nothing
-key_begins word.Pause = begin.Nothing
-key_begins word.Sleep = begin.Sleep
-key_begins word.Hear = begin.Nothing
-key_begins word.For = begin.Nothing
-key_begins word.If = begin.If
-key_begins word.Else = begin.Nothing
-key_begins word.While = begin.While
-key_begins word.Guard = begin.Guard
-key_begins word.Return = begin.Return
-key_begins word.Fail = begin.Fail
-key_begins word.Not = begin.Nothing
-key_begins word.Open = begin.Nothing
-key_begins word.Close = begin.Nothing
-key_begins word.Begin = begin.Nothing
-key_begins word.End = begin.Nothing
-key_begins word.Comma = begin.Nothing
+abbrev pub key_begins : Key → Option Beginning
+key_begins word.Set = Some begin.Set
+key_begins word.Do = None
+key_begins word.Tries = None
+key_begins word.Pause = None
+key_begins word.Sleep = Some begin.Sleep
+key_begins word.Hear = None
+key_begins word.For = None
+key_begins word.If = Some begin.If
+key_begins word.Else = None
+key_begins word.While = Some begin.While
+key_begins word.Guard = Some begin.Guard
+key_begins word.Return = Some begin.Return
+key_begins word.Fail = Some begin.Fail
+key_begins word.Not = None
+key_begins word.Open = None
+key_begins word.Close = None
+key_begins word.Begin = None
+key_begins word.End = None
+key_begins word.Comma = None
 
-abbrev pub begins_at : Token → Beginning
-begins_at (is.Number n) = begin.Nothing
-begins_at (is.Variable v) = begin.Variable v
-begins_at is.Name = begin.Nothing
-begins_at (is.Operator o) = begin.Nothing
+abbrev pub begins_at : Token → Option Beginning
+begins_at (is.Number n) = None
+begins_at (is.Variable v) = Some (begin.Variable v)
+begins_at is.Name = None
+begins_at (is.Operator o) = None
 begins_at (is.Key k) = key_begins k
-begins_at is.Stop = begin.Nothing
-begins_at is.Bad = begin.Nothing
+begins_at is.Stop = None
+begins_at is.Bad = None
 
 abbrev pub key_ends : Key → Bool
 key_ends word.Set = false

@@ -1,5 +1,5 @@
 -- Readers of expressions, by level. Assumes nothing.
-use Rattle.std.specs.Prelude.{◌≡◌, ℕ, ◌+◌, ◌*◌, ◌<◌, ◌≤◌, Bool, true, false, List, [], ◌∷◌, ◌++◌, length, take, Some, None, Ok, Err, Option, Result}
+use Rattle.std.specs.Prelude.{◌≡◌, ℕ, ◌+◌, ◌*◌, ◌<◌, ◌≤◌, List, [], ◌∷◌, ◌++◌, length, take, Some, None, Ok, Err, Option, Result}
 use Rattle.plans.specs.Plan.{Expr, Plus, Minus, Times, Less, Same, expr_size}
 use Rattle.plans.specs.Flat.{code_of}
 use Rattle.text.specs.Token as token
@@ -26,12 +26,6 @@ below_of Compare = Sum
 below_of Sum = Product
 below_of Product = Unary
 below_of Unary = Unary
-
-abbrev pub is_unary : Level → Bool
-is_unary Compare = false
-is_unary Sum = false
-is_unary Product = false
-is_unary Unary = true
 
 abbrev pub rank_of : Level → ℕ
 rank_of Compare = 3
@@ -95,13 +89,6 @@ joins_at level (is.Key k) = None
 joins_at level is.Stop = None
 joins_at level is.Bad = None
 
-abbrev pub kind_of : Operator → ℕ
-kind_of by.Plus = 18
-kind_of by.Minus = 19
-kind_of by.Times = 20
-kind_of by.Less = 21
-kind_of by.Same = 22
-
 abbrev pub build : Operator → Expr → Expr → Expr
 build by.Plus a b = Plus a b
 build by.Minus a b = Minus a b
@@ -110,35 +97,35 @@ build by.Less a b = Less a b
 build by.Same a b = Same a b
 
 -- how an expression without operations begins
-abbrev pub key_opens : Key → Opening
-key_opens word.Set = opening.Nothing
-key_opens word.Do = opening.Nothing
-key_opens word.Tries = opening.Nothing
-key_opens word.Pause = opening.Nothing
-key_opens word.Sleep = opening.Nothing
-key_opens word.Hear = opening.Nothing
-key_opens word.For = opening.Nothing
-key_opens word.If = opening.Nothing
-key_opens word.Else = opening.Nothing
-key_opens word.While = opening.Nothing
-key_opens word.Guard = opening.Nothing
-key_opens word.Return = opening.Nothing
-key_opens word.Fail = opening.Nothing
-key_opens word.Not = opening.Negation
-key_opens word.Open = opening.Bracket
-key_opens word.Close = opening.Nothing
-key_opens word.Begin = opening.Nothing
-key_opens word.End = opening.Nothing
-key_opens word.Comma = opening.Nothing
+abbrev pub key_opens : Key → Option Opening
+key_opens word.Set = None
+key_opens word.Do = None
+key_opens word.Tries = None
+key_opens word.Pause = None
+key_opens word.Sleep = None
+key_opens word.Hear = None
+key_opens word.For = None
+key_opens word.If = None
+key_opens word.Else = None
+key_opens word.While = None
+key_opens word.Guard = None
+key_opens word.Return = None
+key_opens word.Fail = None
+key_opens word.Not = Some opening.Negation
+key_opens word.Open = Some opening.Bracket
+key_opens word.Close = None
+key_opens word.Begin = None
+key_opens word.End = None
+key_opens word.Comma = None
 
-abbrev pub opens_at : Token → Opening
-opens_at (is.Number n) = opening.Number n
-opens_at (is.Variable v) = opening.Variable v
-opens_at is.Name = opening.Nothing
-opens_at (is.Operator o) = opening.Nothing
+abbrev pub opens_at : Token → Option Opening
+opens_at (is.Number n) = Some (opening.Number n)
+opens_at (is.Variable v) = Some (opening.Variable v)
+opens_at is.Name = None
+opens_at (is.Operator o) = None
 opens_at (is.Key k) = key_opens k
-opens_at is.Stop = opening.Nothing
-opens_at is.Bad = opening.Nothing
+opens_at is.Stop = None
+opens_at is.Bad = None
 
 -- it went on by `least` bytes or more, and the draft did not shrink
 abbrev pub Further : Result Cursor NoPlan → (least : ℕ) → Cursor → (bytes room : ℕ) → Type 0

@@ -1,3 +1,4 @@
+pub mod Errors
 pub mod Beginnings
 pub mod Levels
 pub mod Plans

@@ -1,5 +1,5 @@
 -- What is read of a whole text. Assumes nothing.
-use Rattle.std.specs.Prelude.{◌≡◌, ℕ, ◌*◌, ◌<◌, ◌≤◌, List, length, take, Ok, Err, Result}
+use Rattle.std.specs.Prelude.{◌≡◌, ℕ, ◌*◌, ◌<◌, ◌≤◌, List, take, Ok, Err, Result}
 use Rattle.plans.specs.Plan.{Block, size_of}
 use Rattle.plans.specs.Flat.{draft_of, laid}
 use Rattle.plans.specs.Sheet.{Wrote, Step}
@@ -19,13 +19,6 @@ pub record IsRead (text : List ℕ) (size : ℕ) (draft : List ℕ) : Type 0 whe
 abbrev pub ReadPlan : Result ℕ NoPlan → (text draft : List ℕ) → Type 0
 ReadPlan (Ok size) text draft = IsRead text size draft
 ReadPlan (Err e) text draft = read_text 65536 text ≡ nothing
-
--- the flat form was written, or there is too little room for it
-abbrev pub Writes : {S : Type 0} → (S → ℕ → S → Type 0) → (S → ℕ) → Result ℕ ReadError → ℕ → S → List ℕ → S → Type 0
-Writes wrote room (Ok n) size s ws t = (n ≡ size) × Wrote (Step wrote room) ws s t
-Writes wrote room (Err (NotPlan e)) size s ws t = ⊥
-Writes wrote room (Err NoRoom) size s ws t = room s < length ws
-Writes wrote room (Err ShortDraft) size s ws t = ⊥
 
 -- the text is a plan of this size, whose flat form was written; or of none, and nothing was written; or there is too little room
 abbrev pub Reads : {S : Type 0} → (S → ℕ → S → Type 0) → (S → ℕ) → Result ℕ ReadError → (text : List ℕ) → (draft : ℕ) → S → S → Type 0

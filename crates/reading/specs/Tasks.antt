@@ -1,13 +1,9 @@
 -- What the readers of tasks and hearings leave. Assumes nothing.
-use Rattle.std.specs.Prelude.{◌≡◌, ℕ, ◌+◌, ◌-◌, ◌*◌, ◌<◌, ◌≤◌, Bool, true, false, ◌⊎◌, List, ◌++◌, length, take, drop, Ok, Err, Result, ◌≢◌}
+use Rattle.std.specs.Prelude.{◌≡◌, ℕ, ◌+◌, ◌-◌, ◌*◌, ◌<◌, ◌≤◌, true, false, ◌⊎◌, List, ◌++◌, length, take, drop, Ok, Err, Result, ◌≢◌}
 use Rattle.plans.specs.Plan.{Expr, sizes}
 use Rattle.plans.specs.Flat.{codes_of, padded}
 use Rattle.text.specs.Lexer.{Lexed}
 use Rattle.text.specs.Ahead.{ahead}
-use Rattle.text.specs.declared.Token.{Token}
-use Rattle.text.specs.declared.Token.TheVariants as is
-use Rattle.text.specs.declared.Key.{Key}
-use Rattle.text.specs.declared.Key.TheVariants as word
 use Rattle.reading.specs.declared.error.NoPlan.{NoPlan}
 use Rattle.reading.specs.declared.tokens.Found.{Found}
 use Rattle.reading.specs.declared.tasks.Args.{Args}
@@ -17,38 +13,7 @@ use Rattle.reading.specs.Took.{Family, Took, Bars}
 use Rattle.reading.specs.Tokens.{Onward}
 use Rattle.reading.specs.Statements.{front_at, back_at, Times, times_ok, heard_at, Heard}
 
-abbrev pub key_closes : Key → Bool
-key_closes word.Set = false
-key_closes word.Do = false
-key_closes word.Tries = false
-key_closes word.Pause = false
-key_closes word.Sleep = false
-key_closes word.Hear = false
-key_closes word.For = false
-key_closes word.If = false
-key_closes word.Else = false
-key_closes word.While = false
-key_closes word.Guard = false
-key_closes word.Return = false
-key_closes word.Fail = false
-key_closes word.Not = false
-key_closes word.Open = false
-key_closes word.Close = true
-key_closes word.Begin = false
-key_closes word.End = false
-key_closes word.Comma = false
-
--- the closing bracket
-abbrev pub closes_at : Token → Bool
-closes_at (is.Number n) = false
-closes_at (is.Variable v) = false
-closes_at is.Name = false
-closes_at (is.Operator o) = false
-closes_at (is.Key k) = key_closes k
-closes_at is.Stop = false
-closes_at is.Bad = false
-
-abbrev pub ReadFront : Result Found NoPlan → List ℕ → ℕ → Type 0
+abbrev pub ReadFront : Result (Found ℕ) NoPlan → List ℕ → ℕ → Type 0
 ReadFront (Ok f) text from = Took front_at f.value (ahead text from) (ahead text f.next) × (f.value < 4294967296) × Onward from f.next (length text)
 ReadFront (Err e) text from = Bars front_at (λ k. 4294967296 ≤ k) (ahead text from)
 

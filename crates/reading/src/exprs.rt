@@ -1,10 +1,10 @@
 // Expressions: from text to units in postfix order.
-ghost use Rattle.std.specs.Prelude.{◌≡◌, ℕ, ◌+◌, ◌-◌, ◌*◌, ◌<◌, ◌≤◌, List, [], ◌∷◌, ◌++◌, length, take};
+ghost use Rattle.std.specs.Prelude.{◌≡◌, ℕ, ◌+◌, ◌-◌, ◌*◌, ◌<◌, ◌≤◌, List, [], ◌∷◌, ◌++◌, length, take, MatchResult};
 ghost use Rattle.plans.specs.Plan.{Expr};
 ghost use Rattle.plans.specs.Flat.{code_of};
 ghost use Rattle.text.specs.Lexer.{Lexed};
 ghost use Rattle.reading.specs.declared.exprs.Level.TheVariants.{Unary};
-ghost use Rattle.reading.specs.Levels.{below_of, is_unary, expr_at, more_at, joins_at, kind_of, opens_at, Further, Onwards, Leaf, ReadExpr, ReadFrom, behind_not, behind_open};
+ghost use Rattle.reading.specs.Levels.{below_of, expr_at, more_at, joins_at, opens_at, Further, Onwards, Leaf, ReadExpr, ReadFrom, behind_not, behind_open};
 
 use crate::error::{Expected, NoPlan};
 use crate::tokens;
@@ -12,7 +12,7 @@ use plans::kinds;
 use text::{Key, Lexeme, Operator, Token, token_at};
 
 // From the loosest binding to the tightest.
-#[derive(Clone, Copy)]
+#[derive(Clone, Copy, Debug, PartialEq, Eq)]
 pub enum Level {
     Compare,
     Sum,
@@ -21,17 +21,16 @@ pub enum Level {
 }
 
 // How an expression without operations begins.
-#[derive(Clone, Copy)]
+#[derive(Clone, Copy, Debug, PartialEq, Eq)]
 pub enum Opening {
     Number(u64),
     Variable(u64),
     Negation,
     Bracket,
-    Nothing,
 }
 
 // How far the text is read, and how many words of the draft are written.
-#[derive(Clone, Copy)]
+#[derive(Clone, Copy, Debug, PartialEq, Eq)]
 pub struct Cursor {
     pub pos: usize,
     pub len: usize,
@@ -46,12 +45,6 @@ fn below(level: Level) -> Level
         Level::Product => Level::Unary,
         Level::Unary => Level::Unary,
     }
-}
-
-fn is_unary(level: Level) -> bool
-    ensures { result ≡ is_unary level }
-{
-    matches!(level, Level::Unary)
 }
 
 // The operation that a token is, if it is one of this level.
@@ -71,28 +64,27 @@ fn joins(level: Level, token: Token) -> Option<Operator>
     }
 }
 
-fn kind_of(operator: Operator) -> u64
-    ensures { result ≡ kind_of operator }
-{
-    match operator {
-        Operator::Plus => kinds::PLUS,
-        Operator::Minus => kinds::MINUS,
-        Operator::Times => kinds::TIMES,
-        Operator::Less => kinds::LESS,
-        Operator::Same => kinds::SAME,
-    }
-}
-
-fn opens(token: Token) -> Opening
+fn opens(token: Token) -> Option<Opening>
     ensures { result ≡ opens_at token }
 {
     match token {
-        Token::Number(n) => Opening::Number(n),
-        Token::Variable(v) => Opening::Variable(v),
-        Token::Key(Key::Not) => Opening::Negation,
-        Token::Key(Key::Open) => Opening::Bracket,
-        _ => Opening::Nothing,
+        Token::Number(n) => Some(Opening::Number(n)),
+        Token::Variable(v) => Some(Opening::Variable(v)),
+        Token::Key(Key::Not) => Some(Opening::Negation),
+        Token::Key(Key::Open) => Some(Opening::Bracket),
+        _ => None,
     }
+}
+
+// Room for so many words more, for what begins at `start`.
+pub fn room(out: &[u64], len: usize, words: usize, start: usize) -> Result<(), NoPlan>
+    requires { len ≤ length out.now }
+    ensures { MatchResult result (λ _. len + words ≤ length out.now) (λ _. length out.now < len + words) }
+{
+    if out.len() - len < words {
+        return Err(Expected::Size.at(start));
+    }
+    Ok(())
 }
 
 // One unit more.
@@ -117,12 +109,7 @@ pub fn leaf(
     requires { len ≤ length out.old }
     ensures { Leaf result found.next len kind value out.old out.new }
 {
-    if out.len() - len < 4 {
-        return Err(NoPlan {
-            at: found.start,
-            expected: Expected::Size,
-        });
-    }
+    room(out, len, 4, found.start)?;
     unit(out, len, kind, value);
     Ok(Cursor {
         pos: found.next,
@@ -144,7 +131,7 @@ pub fn chain(
     ensures forth { Further result 1 at (length text.now) (length out.old) }
     ensures read { ReadExpr result (expr_at level deep) text.now at.pos (take at.len out.old) out.new }
 {
-    if is_unary(level) {
+    if level == Level::Unary {
         return unary(text, at, out, deep);
     }
     let c = chain(below(level), text, at, out, deep)?;
@@ -177,13 +164,13 @@ fn more(
         len: at.len,
     };
     let c = chain(below(level), text, right, out, deep)?;
-    if out.len() - c.len < 4 {
-        return Err(NoPlan {
-            at: found.start,
-            expected: Expected::Size,
-        });
-    }
-    unit(out, c.len, kind_of(operator), ((c.len - at.len) / 4) as u64);
+    room(out, c.len, 4, found.start)?;
+    unit(
+        out,
+        c.len,
+        u64::from(operator),
+        ((c.len - at.len) / 4) as u64,
+    );
     more(
         level,
         text,
@@ -206,14 +193,11 @@ fn unary(text: &[u8], at: Cursor, out: &mut [u64], deep: usize) -> Result<Cursor
 {
     let found = token_at(text, at.pos);
     match opens(found.token) {
-        Opening::Number(n) => leaf(found, at.len, kinds::NUMBER, n, out),
-        Opening::Variable(v) => leaf(found, at.len, kinds::VARIABLE, v, out),
-        Opening::Negation => negation(text, found, at.len, out, deep),
-        Opening::Bracket => bracket(text, found, at.len, out, deep),
-        Opening::Nothing => Err(NoPlan {
-            at: found.start,
-            expected: Expected::Expression,
-        }),
+        Some(Opening::Number(n)) => leaf(found, at.len, kinds::NUMBER, n, out),
+        Some(Opening::Variable(v)) => leaf(found, at.len, kinds::VARIABLE, v, out),
+        Some(Opening::Negation) => negation(text, found, at.len, out, deep),
+        Some(Opening::Bracket) => bracket(text, found, at.len, out, deep),
+        None => Err(Expected::Expression.at(found.start)),
     }
 }
 
@@ -240,12 +224,7 @@ fn negation(
         out,
         deep,
     )?;
-    if out.len() - c.len < 4 {
-        return Err(NoPlan {
-            at: found.start,
-            expected: Expected::Size,
-        });
-    }
+    room(out, c.len, 4, found.start)?;
     unit(out, c.len, kinds::NOT, 0);
     Ok(Cursor {
         pos: c.pos,
@@ -268,10 +247,7 @@ fn bracket(
     ensures read { (l : Lexed) → l ≡ behind_open text.now found.next → ReadFrom result (expr_at Unary deep) l text.now (take len out.old) out.new }
 {
     if deep == 0 {
-        return Err(NoPlan {
-            at: found.start,
-            expected: Expected::Brackets,
-        });
+        return Err(Expected::Brackets.at(found.start));
     }
     let c = chain(
         Level::Compare,

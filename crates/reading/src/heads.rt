@@ -7,7 +7,7 @@ ghost use Rattle.reading.specs.Levels.{Onwards, ReadExpr};
 ghost use Rattle.reading.specs.Statements.{put4, whole_expr, expr_then, set_at, ReadStmt};
 
 use crate::error::{Expected, NoPlan};
-use crate::exprs::{Cursor, Level, chain};
+use crate::exprs::{Cursor, Level, chain, room};
 use crate::tokens;
 use plans::kinds;
 
@@ -46,12 +46,7 @@ pub fn headed(
     ensures forth { Onwards result (pos + 1) (len + 4) (length text.now) (length out.old) }
     ensures read { ReadExpr result whole_expr text.now pos (take (len + 4) out.old) out.new }
 {
-    if out.len() - len < 4 {
-        return Err(NoPlan {
-            at: start,
-            expected: Expected::Size,
-        });
-    }
+    room(out, len, 4, start)?;
     chain(
         Level::Compare,
         text,

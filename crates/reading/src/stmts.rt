@@ -8,7 +8,7 @@ ghost use Rattle.reading.specs.Levels.{Onwards};
 ghost use Rattle.reading.specs.Statements.{opened_at, other_at, if_at, while_at, guard_at, stmt_at, part_at, ReadStmt, ReadPart};
 
 use crate::error::{Expected, NoPlan};
-use crate::exprs::{Cursor, leaf};
+use crate::exprs::{Cursor, leaf, room};
 use crate::heads::{assignment, head, headed, units, with_expr};
 use crate::tasks::behind_variable;
 use crate::tokens;
@@ -16,7 +16,7 @@ use plans::kinds;
 use text::{Key, Lexeme, Token, token_at};
 
 // How a statement begins.
-#[derive(Clone, Copy)]
+#[derive(Clone, Copy, Debug, PartialEq, Eq)]
 pub enum Beginning {
     Set,
     Sleep,
@@ -26,22 +26,21 @@ pub enum Beginning {
     Return,
     Fail,
     Variable(u64),
-    Nothing,
 }
 
-fn begins(token: Token) -> Beginning
+fn begins(token: Token) -> Option<Beginning>
     ensures { result ≡ begins_at token }
 {
     match token {
-        Token::Variable(v) => Beginning::Variable(v),
-        Token::Key(Key::Set) => Beginning::Set,
-        Token::Key(Key::Sleep) => Beginning::Sleep,
-        Token::Key(Key::If) => Beginning::If,
-        Token::Key(Key::While) => Beginning::While,
-        Token::Key(Key::Guard) => Beginning::Guard,
-        Token::Key(Key::Return) => Beginning::Return,
-        Token::Key(Key::Fail) => Beginning::Fail,
-        _ => Beginning::Nothing,
+        Token::Variable(v) => Some(Beginning::Variable(v)),
+        Token::Key(Key::Set) => Some(Beginning::Set),
+        Token::Key(Key::Sleep) => Some(Beginning::Sleep),
+        Token::Key(Key::If) => Some(Beginning::If),
+        Token::Key(Key::While) => Some(Beginning::While),
+        Token::Key(Key::Guard) => Some(Beginning::Guard),
+        Token::Key(Key::Return) => Some(Beginning::Return),
+        Token::Key(Key::Fail) => Some(Beginning::Fail),
+        _ => None,
     }
 }
 
@@ -150,12 +149,7 @@ fn guarded(
     ensures forth { Onwards result pos len (length text.now) (length out.old) }
     ensures read { ReadStmt result guard_at (ahead text.now pos) text.now (take len out.old) out.new }
 {
-    if out.len() - len < 4 {
-        return Err(NoPlan {
-            at: start,
-            expected: Expected::Size,
-        });
-    }
+    room(out, len, 4, start)?;
     let first = opened(text, pos, len + 4, out)?;
     let last = other(text, first.pos, first.len, out)?;
     head(
@@ -174,12 +168,7 @@ fn failure(found: Lexeme, len: usize, out: &mut [u64]) -> Result<Cursor, NoPlan>
     requires room { len ≤ length out.old }
     ensures { Failure result found.next len out.old out.new }
 {
-    if out.len() - len < 4 {
-        return Err(NoPlan {
-            at: found.start,
-            expected: Expected::Size,
-        });
-    }
+    room(out, len, 4, found.start)?;
     head(out, len, kinds::FAIL, 0, 1, 0);
     Ok(Cursor {
         pos: found.next,
@@ -198,18 +187,15 @@ fn statement(text: &[u8], found: Lexeme, len: usize, out: &mut [u64]) -> Result<
     let next = found.next;
     let start = found.start;
     match begins(found.token) {
-        Beginning::Set => assignment(text, start, next, len, out),
-        Beginning::Sleep => with_expr(text, start, next, len, out, kinds::SLEEP, 0),
-        Beginning::If => fork(text, start, next, len, out),
-        Beginning::While => turning(text, start, next, len, out),
-        Beginning::Guard => guarded(text, start, next, len, out),
-        Beginning::Return => with_expr(text, start, next, len, out, kinds::RETURN, 0),
-        Beginning::Fail => failure(found, len, out),
-        Beginning::Variable(v) => behind_variable(text, start, v, next, len, out),
-        Beginning::Nothing => Err(NoPlan {
-            at: start,
-            expected: Expected::Statement,
-        }),
+        Some(Beginning::Set) => assignment(text, start, next, len, out),
+        Some(Beginning::Sleep) => with_expr(text, start, next, len, out, kinds::SLEEP, 0),
+        Some(Beginning::If) => fork(text, start, next, len, out),
+        Some(Beginning::While) => turning(text, start, next, len, out),
+        Some(Beginning::Guard) => guarded(text, start, next, len, out),
+        Some(Beginning::Return) => with_expr(text, start, next, len, out, kinds::RETURN, 0),
+        Some(Beginning::Fail) => failure(found, len, out),
+        Some(Beginning::Variable(v)) => behind_variable(text, start, v, next, len, out),
+        None => Err(Expected::Statement.at(start)),
     }
 }
 

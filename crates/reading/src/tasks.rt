@@ -4,10 +4,10 @@ ghost use Rattle.plans.specs.Flat.{padded};
 ghost use Rattle.text.specs.Ahead.{ahead};
 ghost use Rattle.reading.specs.Levels.{Onwards};
 ghost use Rattle.reading.specs.Statements.{args_at, list_at, task_at, hear_at, assign_at, ReadStmt};
-ghost use Rattle.reading.specs.Tasks.{closes_at, ReadFront, ReadBack, ReadArgs, ArgsOn, ReadHeard, named};
+ghost use Rattle.reading.specs.Tasks.{ReadFront, ReadBack, ReadArgs, ArgsOn, ReadHeard, named};
 
 use crate::error::{Expected, NoPlan};
-use crate::exprs::{Cursor, Level, chain};
+use crate::exprs::{Cursor, Level, chain, room};
 use crate::heads::{BRACKETS, head, units};
 use crate::tokens;
 use crate::tokens::Found;
@@ -24,7 +24,7 @@ const LONGEST_PAUSE: u64 = 86400000;
 const MOST_ARGUMENTS: u64 = 16;
 
 // How often a task is tried, and the pause behind its first try.
-#[derive(Clone, Copy)]
+#[derive(Clone, Copy, Debug, PartialEq, Eq)]
 pub struct Back {
     pub tries: u64,
     pub pause: u64,
@@ -32,7 +32,7 @@ pub struct Back {
 }
 
 // Arguments: how far the text is read, how many words are written, and how many arguments there are.
-#[derive(Clone, Copy)]
+#[derive(Clone, Copy, Debug, PartialEq, Eq)]
 pub struct Args {
     pub pos: usize,
     pub len: usize,
@@ -40,7 +40,7 @@ pub struct Args {
 }
 
 // A hearing's other variable, and where its name begins and ends.
-#[derive(Clone, Copy)]
+#[derive(Clone, Copy, Debug, PartialEq, Eq)]
 pub struct Hearing {
     pub other: u64,
     pub start: usize,
@@ -48,24 +48,15 @@ pub struct Hearing {
     pub next: usize,
 }
 
-fn closes(token: Token) -> bool
-    ensures { result ≡ closes_at token }
-{
-    matches!(token, Token::Key(Key::Close))
-}
-
 // Behind a variable and =: do, a kind and an opening bracket.
-fn task_front(text: &[u8], pos: usize) -> Result<Found, NoPlan>
+fn task_front(text: &[u8], pos: usize) -> Result<Found<u64>, NoPlan>
     requires { pos ≤ length text.now }
     ensures { ReadFront result text.now pos }
 {
     let first = tokens::key(text, pos, Key::Do)?;
     let kind = tokens::number(text, first)?;
     if kind.value > MOST_KIND {
-        return Err(NoPlan {
-            at: kind.start,
-            expected: Expected::Kind,
-        });
+        return Err(Expected::Kind.at(kind.start));
     }
     let next = tokens::key(text, kind.next, Key::Open)?;
     Ok(Found {
@@ -83,18 +74,12 @@ fn task_back(text: &[u8], pos: usize) -> Result<Back, NoPlan>
     let first = tokens::key(text, pos, Key::Tries)?;
     let tries = tokens::number(text, first)?;
     if tries.value == 0 || tries.value > MOST_TRIES {
-        return Err(NoPlan {
-            at: tries.start,
-            expected: Expected::Tries,
-        });
+        return Err(Expected::Tries.at(tries.start));
     }
     let then = tokens::key(text, tries.next, Key::Pause)?;
     let pause = tokens::number(text, then)?;
     if pause.value > LONGEST_PAUSE {
-        return Err(NoPlan {
-            at: pause.start,
-            expected: Expected::Pause,
-        });
+        return Err(Expected::Pause.at(pause.start));
     }
     Ok(Back {
         tries: tries.value,
@@ -112,7 +97,7 @@ fn more_arguments(text: &[u8], at: Cursor, out: &mut [u64], count: u64) -> Resul
     ensures read { ReadArgs result args_at (ahead text.now at.pos) text.now (take at.len out.old) count out.new }
 {
     let found = token_at(text, at.pos);
-    if closes(found.token) {
+    if found.token == Token::Key(Key::Close) {
         return Ok(Args {
             pos: found.next,
             len: at.len,
@@ -121,10 +106,7 @@ fn more_arguments(text: &[u8], at: Cursor, out: &mut [u64], count: u64) -> Resul
     }
     let next = tokens::key(text, at.pos, Key::Comma)?;
     if count >= MOST_ARGUMENTS {
-        return Err(NoPlan {
-            at: found.start,
-            expected: Expected::Arguments,
-        });
+        return Err(Expected::Arguments.at(found.start));
     }
     let c = chain(
         Level::Compare,
@@ -147,7 +129,7 @@ fn arguments(text: &[u8], pos: usize, len: usize, out: &mut [u64]) -> Result<Arg
     ensures read { ReadArgs result list_at (ahead text.now pos) text.now (take len out.old) 0 out.new }
 {
     let found = token_at(text, pos);
-    if closes(found.token) {
+    if found.token == Token::Key(Key::Close) {
         return Ok(Args {
             pos: found.next,
             len,
@@ -173,12 +155,7 @@ fn task(
     ensures read { ReadStmt result (task_at v) (ahead text.now pos) text.now (take len out.old) out.new }
 {
     let front = task_front(text, pos)?;
-    if out.len() - len < 16 {
-        return Err(NoPlan {
-            at: start,
-            expected: Expected::Size,
-        });
-    }
+    room(out, len, 16, start)?;
     let args = arguments(text, front.next, len + 16, out)?;
     let back = task_back(text, args.pos)?;
     head(out, len + 12, 0, 0, 0, 0);
@@ -205,10 +182,7 @@ fn hearing_front(text: &[u8], v: u64, pos: usize) -> Result<Hearing, NoPlan>
 {
     let other = tokens::variable(text, pos)?;
     if other.value == v {
-        return Err(NoPlan {
-            at: other.start,
-            expected: Expected::OtherVariable,
-        });
+        return Err(Expected::OtherVariable.at(other.start));
     }
     let hears = tokens::same(text, other.next)?;
     let first = tokens::key(text, hears, Key::Hear)?;
@@ -227,13 +201,11 @@ fn letter(name: &[u8], i: usize) -> u64
     requires { i < 64 }
     ensures { result ≡ slice_index (padded name.now) i }
 {
-    if i < name.len() {
-        return u64::from(name[i]);
-    }
-    0
+    name.get(i).map_or(0, |&letter| u64::from(letter))
 }
 
 // A name, one letter a word, and zeros behind it.
+// A loop over places: `zip` of the words with the letters would end with the name, before the zeros.
 fn write_name(out: &mut [u64], at: usize, name: &[u8])
     requires { at + 64 ≤ length out.old }
     ensures { out.new ≡ named out.old at name.now }
@@ -258,12 +230,7 @@ fn hear(
     ensures read { ReadStmt result (hear_at v) (ahead text.now pos) text.now (take len out.old) out.new }
 {
     let front = hearing_front(text, v, pos)?;
-    if out.len() - len < 68 {
-        return Err(NoPlan {
-            at: start,
-            expected: Expected::Size,
-        });
-    }
+    room(out, len, 68, start)?;
     let c = chain(
         Level::Compare,
         text,
@@ -301,8 +268,5 @@ pub fn behind_variable(
     if let Ok(next) = tokens::key(text, pos, Key::Comma) {
         return hear(text, start, v, next, len, out);
     }
-    Err(NoPlan {
-        at: token_at(text, pos).start,
-        expected: Expected::Assignment,
-    })
+    Err(Expected::Assignment.at(token_at(text, pos).start))
 }

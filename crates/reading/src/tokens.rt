@@ -1,49 +1,31 @@
 // One token of a text, where it is the one that is wanted.
 ghost use Rattle.std.specs.Prelude.{◌≡◌, ◌≤◌, length};
 ghost use Rattle.text.specs.Ahead.{key_meant};
-ghost use Rattle.reading.specs.Tokens.{key_code, is_same, TookKey, TookSame, TookNumber, TookVariable, TookName};
 
 use crate::error::{Expected, NoPlan};
-use text::{Key, Operator, Token, token_at};
+use text::{Key, Lexeme, Operator, Token, token_at};
 
-// A number or a variable, where it begins, and where what follows begins.
-#[derive(Clone, Copy)]
-pub struct Found {
-    pub value: u64,
+// What a token has, where it begins, and where what follows it begins.
+#[derive(Clone, Copy, Debug, PartialEq, Eq)]
+pub struct Found<T> {
+    pub value: T,
     pub start: usize,
     pub next: usize,
 }
 
-// A name, by where it begins and ends.
-#[derive(Clone, Copy)]
-pub struct Named {
-    pub start: usize,
-    pub next: usize,
-}
+ghost use Rattle.reading.specs.Tokens.{wanted_of, TookKey, TookSame, TookNumber, TookVariable, TookName};
 
-fn key_code(k: Key) -> u8
-    ensures { result ≡ key_code k }
+// A token that has what is wanted.
+fn wanted<T>(found: Lexeme, value: Option<T>, expected: Expected) -> Result<Found<T>, NoPlan>
+    ensures { result ≡ wanted_of found value expected }
 {
-    match k {
-        Key::Set => 0,
-        Key::Do => 1,
-        Key::Tries => 2,
-        Key::Pause => 3,
-        Key::Sleep => 4,
-        Key::Hear => 5,
-        Key::For => 6,
-        Key::If => 7,
-        Key::Else => 8,
-        Key::While => 9,
-        Key::Guard => 10,
-        Key::Return => 11,
-        Key::Fail => 12,
-        Key::Not => 13,
-        Key::Open => 14,
-        Key::Close => 15,
-        Key::Begin => 16,
-        Key::End => 17,
-        Key::Comma => 18,
+    match value {
+        Some(value) => Ok(Found {
+            value,
+            start: found.start,
+            next: found.next,
+        }),
+        None => Err(expected.at(found.start)),
     }
 }
 
@@ -53,23 +35,10 @@ pub fn key(text: &[u8], pos: usize, want: Key) -> Result<usize, NoPlan>
     ensures { TookKey result (key_meant want) text.now pos }
 {
     let found = token_at(text, pos);
-    if let Token::Key(k) = found.token {
-        if key_code(k) == key_code(want) {
-            return Ok(found.next);
-        }
-    }
-    Err(NoPlan {
-        at: found.start,
-        expected: Expected::Word(want),
-    })
-}
-
-fn is_same(token: Token) -> bool
-    ensures { result ≡ is_same token }
-{
-    match token {
-        Token::Operator(o) => matches!(o, Operator::Same),
-        _ => false,
+    if found.token == Token::Key(want) {
+        Ok(found.next)
+    } else {
+        Err(Expected::Word(want).at(found.start))
     }
 }
 
@@ -79,64 +48,35 @@ pub fn same(text: &[u8], pos: usize) -> Result<usize, NoPlan>
     ensures { TookSame result text.now pos }
 {
     let found = token_at(text, pos);
-    if is_same(found.token) {
-        return Ok(found.next);
+    if found.token == Token::Operator(Operator::Same) {
+        Ok(found.next)
+    } else {
+        Err(Expected::Same.at(found.start))
     }
-    Err(NoPlan {
-        at: found.start,
-        expected: Expected::Same,
-    })
 }
 
-pub fn number(text: &[u8], pos: usize) -> Result<Found, NoPlan>
+pub fn number(text: &[u8], pos: usize) -> Result<Found<u64>, NoPlan>
     requires { pos ≤ length text.now }
     ensures { TookNumber result text.now pos }
 {
     let found = token_at(text, pos);
-    if let Token::Number(value) = found.token {
-        return Ok(Found {
-            value,
-            start: found.start,
-            next: found.next,
-        });
-    }
-    Err(NoPlan {
-        at: found.start,
-        expected: Expected::Number,
-    })
+    wanted(found, found.token.as_number(), Expected::Number)
 }
 
-pub fn variable(text: &[u8], pos: usize) -> Result<Found, NoPlan>
+pub fn variable(text: &[u8], pos: usize) -> Result<Found<u64>, NoPlan>
     requires { pos ≤ length text.now }
     ensures { TookVariable result text.now pos }
 {
     let found = token_at(text, pos);
-    if let Token::Variable(value) = found.token {
-        return Ok(Found {
-            value,
-            start: found.start,
-            next: found.next,
-        });
-    }
-    Err(NoPlan {
-        at: found.start,
-        expected: Expected::Variable,
-    })
+    wanted(found, found.token.as_variable(), Expected::Variable)
 }
 
-pub fn name(text: &[u8], pos: usize) -> Result<Named, NoPlan>
+// A name, which is the bytes from its start to what follows it.
+pub fn name(text: &[u8], pos: usize) -> Result<Found<()>, NoPlan>
     requires { pos ≤ length text.now }
     ensures { TookName result text.now pos }
 {
     let found = token_at(text, pos);
-    if let Token::Name = found.token {
-        return Ok(Named {
-            start: found.start,
-            next: found.next,
-        });
-    }
-    Err(NoPlan {
-        at: found.start,
-        expected: Expected::Name,
-    })
+    let is_name = found.token == Token::Name;
+    wanted(found, is_name.then_some(()), Expected::Name)
 }

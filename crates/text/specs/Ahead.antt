@@ -1,5 +1,5 @@
 -- What the lexer's code answers. Assumes nothing.
-use Rattle.std.specs.Prelude.{◌≡◌, ℕ, ◌-◌, ◌<◌, ◌≤◌, Bool, true, false, List, [], ◌∷◌, take, drop}
+use Rattle.std.specs.Prelude.{◌≡◌, ℕ, ◌-◌, ◌<◌, ◌≤◌, Bool, true, false, List, [], ◌∷◌, take, drop, Some, None, Option}
 use Rattle.text.specs.Token.{SET, DO, TRIES, PAUSE, SLEEP, HEAR, FOR, IF, ELSE, WHILE, GUARD, RETURN, FAIL, NOT, OPEN, CLOSE, BEGIN, END, COMMA, Op, PLUS, MINUS, TIMES, LESS, SAME, number, variable, name, op, key}
 use Rattle.text.specs.Token as token
 use Rattle.text.specs.Lexer.{Lexed, wrong, tokens, tokens_in}
@@ -55,6 +55,25 @@ means is.Bad w = wrong
 
 abbrev pub meant : List ℕ → Lexeme → Lexed
 meant text r = means r.token (take (r.next - r.start) (drop r.start text))
+
+-- the number, or the variable, that a token is
+abbrev pub number_in : Token → Option ℕ
+number_in (is.Number n) = Some n
+number_in (is.Variable v) = None
+number_in is.Name = None
+number_in (is.Operator o) = None
+number_in (is.Key k) = None
+number_in is.Stop = None
+number_in is.Bad = None
+
+abbrev pub variable_in : Token → Option ℕ
+variable_in (is.Number n) = None
+variable_in (is.Variable v) = Some v
+variable_in is.Name = None
+variable_in (is.Operator o) = None
+variable_in (is.Key k) = None
+variable_in is.Stop = None
+variable_in is.Bad = None
 
 -- it is a token
 abbrev pub taken : Token → Bool

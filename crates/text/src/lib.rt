@@ -145,6 +145,30 @@ pub enum Token {
     Bad,
 }
 
+impl Token {
+    ghost use Rattle.text.specs.Ahead.{number_in, variable_in};
+
+    // The number that it is.
+    pub fn as_number(self) -> Option<u64>
+        ensures { result ≡ number_in self }
+    {
+        match self {
+            Token::Number(n) => Some(n),
+            _ => None,
+        }
+    }
+
+    // The number of the variable that it is.
+    pub fn as_variable(self) -> Option<u64>
+        ensures { result ≡ variable_in self }
+    {
+        match self {
+            Token::Variable(v) => Some(v),
+            _ => None,
+        }
+    }
+}
+
 // A token of a text: where it begins, and where what follows it begins.
 #[derive(Clone, Copy, Debug, PartialEq, Eq)]
 pub struct Lexeme {

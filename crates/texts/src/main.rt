@@ -13,7 +13,7 @@ use reading::error::ReadError;
 use reading::read;
 use std::alloc::Global;
 use std::io::{BufRead, BufReader};
-use wording::wording;
+use wording::Wording;
 
 // The longest printed text that an answer shows, in bytes.
 const SHORT: usize = 200;
@@ -26,7 +26,7 @@ fn answer(heap: Global, text: &[u8]) -> anyhow::Result<String> {
         Ok(size) => accepted(heap, size, &slate),
         Err(ReadError::NotPlan(why)) => {
             let at = why.at;
-            let expected = wording(text, why);
+            let expected = Wording { text, why };
             Ok(format!(in heap; "no {at} {expected}")?)
         }
         Err(_) => Err(anyhow!("a plan found no room")),

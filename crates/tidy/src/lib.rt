@@ -1,70 +1,82 @@
 // Tidying: a plan's text, read and printed well laid out; or where it is no plan.
 #![tactic(auto)]
 
-ghost use Rattle.std.specs.Prelude.{◌≡◌, ℕ, ◌≤◌, min, true, length, IfSome, Ok, Err};
-ghost use Rattle.plans.specs.Plan.{Block, block_ok};
-ghost use Rattle.plans.specs.Flat.{laid};
-ghost use Rattle.plans.specs.Slate.{words_of};
-ghost use Rattle.text.specs.Printer.{text_of};
-ghost use Rattle.tidy.specs.Tidies.{Tidied, Why, reason_of, PlaceAt};
+ghost use Rattle.std.specs.Prelude.{◌≡◌, min, length, MatchResult};
+ghost use Rattle.tidy.specs.declared.TidyError.TheVariants.{Memory};
+ghost use Rattle.tidy.specs.Tidies.{Tidied, Why, PlaceAt};
 
 use plans::kinds::MOST_WORDS;
 use plans::sheet::Slate;
-use printing::print;
+use printing::{PrintError, print};
 use reading::error::{NoPlan, ReadError};
 use reading::read;
-use std::alloc::Global;
+use std::alloc::{AllocError, Global};
+use std::error::Error;
+use std::fmt;
 
 // Why nothing is printed.
-#[derive(Clone, Copy)]
+#[derive(Clone, Copy, Debug, PartialEq, Eq)]
 pub enum TidyError {
     NotPlan(NoPlan),
     Memory,
 }
 
-// The plan that a text is, as `print` lays it out.
-pub fn tidy(heap: Global, text: &[u8]) -> Result<Vec<u8>, TidyError>
-    ensures { elim result [ Ok v ↦ Tidied text.now v.items | Err e ↦ Why e text.now ] }
-{
-    let Ok(mut draft) = vec![in heap; 0u64; MOST_WORDS] else {
-        return Err(TidyError::Memory);
-    };
-    let Ok(mut slate) = Slate::new(heap, MOST_WORDS) else {
-        return Err(TidyError::Memory);
-    };
-    match read(text, &mut draft, &mut slate) {
-        Err(e) => Err(reason(e)),
-        Ok(_) => match printed(heap, &slate) {
-            Some(out) => Ok(out),
-            None => Err(TidyError::Memory),
-        },
+impl fmt::Display for TidyError {
+    fn fmt<W: fmt::Write>(&self, f: &mut fmt::Formatter<W>) -> fmt::Result {
+        match self {
+            TidyError::NotPlan(why) => write!(f, "{why}"),
+            TidyError::Memory => write!(f, "out of memory"),
+        }
+    }
+}
+
+impl Error for TidyError {}
+
+impl From<AllocError> for TidyError {
+    ghost from_gives = { λ _ e. e ≡ Memory };
+
+    fn from(_error: AllocError) -> TidyError {
+        TidyError::Memory
     }
 }
 
 // There is room for every plan, so that only the text can be wrong.
-fn reason(e: ReadError) -> TidyError
-    ensures { result ≡ reason_of e }
-{
-    match e {
-        ReadError::NotPlan(why) => TidyError::NotPlan(why),
-        ReadError::NoRoom => TidyError::Memory,
-        ReadError::ShortDraft => TidyError::Memory,
+impl From<ReadError> for TidyError {
+    ghost use Rattle.tidy.specs.Tidies.{reason_of};
+
+    ghost from_gives = { λ why e. e ≡ reason_of why };
+
+    fn from(error: ReadError) -> TidyError {
+        match error {
+            ReadError::NotPlan(why) => TidyError::NotPlan(why),
+            ReadError::NoRoom | ReadError::ShortDraft => TidyError::Memory,
+        }
     }
 }
 
-// The text of the plan whose flat form is on the slate.
-fn printed(heap: Global, slate: &Slate) -> Option<Vec<u8>>
-    ensures { (b : Block) → words_of slate.now ≡ laid b → block_ok b ≡ true → IfSome result (λ v. v.items ≡ text_of b) }
-{
-    let mut out = Vec::new(heap);
-    match print(slate.as_slice(), &mut out) {
-        Ok(()) => Some(out),
-        Err(_) => None,
+// What was read is a plan, so that only memory can be short.
+impl From<PrintError> for TidyError {
+    ghost from_gives = { λ _ e. e ≡ Memory };
+
+    fn from(_error: PrintError) -> TidyError {
+        TidyError::Memory
     }
+}
+
+// The plan that a text is, as `print` lays it out.
+pub fn tidy(heap: Global, text: &[u8]) -> Result<Vec<u8>, TidyError>
+    ensures { MatchResult result (λ v. Tidied text.now v.items) (λ e. Why e text.now) }
+{
+    let mut draft = vec![in heap; 0u64; MOST_WORDS]?;
+    let mut slate = Slate::new(heap, MOST_WORDS)?;
+    read(text, &mut draft, &mut slate)?;
+    let mut out = Vec::new(heap);
+    print(slate.as_slice(), &mut out)?;
+    Ok(out)
 }
 
 // Where a byte of a text stands: its line and column, from 1, and where the line begins and ends.
-#[derive(Clone, Copy)]
+#[derive(Clone, Copy, Debug, PartialEq, Eq)]
 pub struct Place {
     pub line: usize,
     pub column: usize,
@@ -79,20 +91,19 @@ pub fn place_of(text: &[u8], at: usize) -> Place
     let here = at.min(text.len());
     let mut line = 1;
     let mut begin = 0;
+    // One loop for both: a count and a search from the back would go over the bytes twice.
     for i in 0..here {
         if text[i] == b'\n' {
             line += 1;
             begin = i + 1;
         }
     }
-    let mut end = here;
-    while end < text.len() && text[end] != b'\n' {
-        end += 1;
-    }
+    let behind = &text[here..];
+    let rest = behind.iter().position(|&byte| byte == b'\n');
     Place {
         line,
         column: here - begin + 1,
         begin,
-        end,
+        end: here + rest.unwrap_or(behind.len()),
     }
 }

@@ -1,4 +1,4 @@
-use Rattle.std.proofs.Common.{◌≡◌, ℕ, ◌+◌, ◌-◌, List, ◌++◌, length, take, drop, sym, refl, ◌∙◌, subst, le_refl, arith, length-take-le}
+use Rattle.std.proofs.Common.{rules, ◌≡◌, ℕ, ◌+◌, ◌-◌, List, ◌++◌, length, take, drop, sym, refl, ◌∙◌, subst, le_refl, arith, length-take-le}
 use Rattle.std.proofs.lemmas.Result.{err_from_is_err_and}
 use Rattle.plans.specs.Plan.{Sleep, Return, If, While, Guard, expr_size, size_of}
 use Rattle.plans.specs.Flat.{code_of, draft_stmt, draft_of}
@@ -9,7 +9,8 @@ use Rattle.reading.specs.Tokens.{one_key}
 use Rattle.reading.specs.Statements.{expr_then, set_at, closed_at, opened_at, if_at, while_at, guard_at}
 use Rattle.reading.proofs.Taking.{stop_end}
 use Rattle.reading.proofs.Steps.{step_refused, onwards_more}
-use Rattle.reading.proofs.Stated.{opened_bar, opened_open, opened_took, other_read, if_bar_condition, if_bar_first, if_bar_other, while_bar_condition, while_bar_body, guard_bar_first, guard_bar_other, if_took, while_took, guard_took, if_words, while_words, guard_words, no_room_part, long, by_key_lem, by_variable, no_statement, begins_set, begins_sleep, begins_if, begins_while, begins_guard, begins_return, begins_fail, begins_variable_lem, at_token, set_is, sleep_is, if_is, while_is, guard_is, return_is, fail_is, part_end, going, part_bar_first, sleep_draft, sleep_size, return_draft, return_size, fail_at, failure_onwards, failure_read, end_read, part_read, not_stop}
+use Rattle.reading.specs.declared.stmts.Beginning.TheVariants as begin
+use Rattle.reading.proofs.Stated.{opened_bar, opened_open, opened_took, other_read, if_bar_condition, if_bar_first, if_bar_other, while_bar_condition, while_bar_body, guard_bar_first, guard_bar_other, if_took, while_took, guard_took, if_words, while_words, guard_words, no_room_part, long, by_key_lem, by_variable, no_statement, begins_is, at_token, set_is, sleep_is, if_is, while_is, guard_is, return_is, fail_is, part_end, going, part_bar_first, sleep_draft, sleep_size, return_draft, return_size, fail_at, failure_onwards, failure_read, end_read, part_read, not_stop}
 use Rattle.reading.proofs.stmts.+fork_guarded_opened_other_part_statement_turning.Goals as goal
 
 pub opened-returns-in_err-first : goal.opened-returns-in_err-first
@@ -134,12 +135,14 @@ turning-returns ring c =
       };
     }
 
-pub guarded-returns-then-out-len-lt4 : goal.guarded-returns-then-out-len-lt4
-guarded-returns-then-out-len-lt4 ring c = record { forth = tt; read = guard_bar_first c.args.out.now c.args.len (length c.args.out.now) _ c.requires.room (c.args.len + 4) refl (no_room_part opened_at _ _ _ (omega arith)) }
+pub guarded-returns-in_err-room : goal.guarded-returns-in_err-room
+guarded-returns-in_err-room ring c =
+    let q = err_from_is_err_and c.from_residual.result c.from_residual.ensures.1 in
+    rw q.1 (record { forth = tt; read = guard_bar_first c.args.out.now c.args.len (length c.args.out.now) _ c.requires.room (c.args.len + 4) refl (no_room_part opened_at _ _ _ (omega (arith, c.in_err-room.ensures))) })
 
 pub guarded-returns-in_err-first : goal.guarded-returns-in_err-first
 guarded-returns-in_err-first ring c =
-    let q = err_from_is_err_and c.from_residual.result c.from_residual.ensures.1 in
+    let q = err_from_is_err_and c.from_residual-in_err-first.result c.from_residual-in_err-first.ensures.1 in
     let t0 = length-take-le (c.args.len + 4) c.args.out.now (omega arith) in
     rw q.1 (record { forth = tt; read = guard_bar_first c.args.out.now c.args.len (length c.opened.new.out) _ c.requires.room (length (take (c.args.len + 4) c.args.out.now)) t0 c.in_err-first.ensures.read })
 
@@ -171,56 +174,56 @@ guarded-returns ring c =
       };
     }
 
-pub statement-returns-in-Set : goal.statement-returns-in-Set
-statement-returns-in-Set ring c = record {
+pub statement-returns-in-Some-Set : goal.statement-returns-in-Some-Set
+statement-returns-in-Some-Set ring c = record {
   forth = c.assignment.ensures.forth;
-  read = λ l h s. by_key_lem SET set_at set_is c.assignment.result l (ahead c.args.text.now c.args.found.next) c.args.text.now (take c.args.len c.args.out.now) c.assignment.new.out (at_token c.args.found.token _ (take (c.args.found.next - c.args.found.start) (drop c.args.found.start c.args.text.now)) l _ h (begins_set c.args.found.token (sym c.begins.ensures ∙ c.in-Set.is))) c.assignment.ensures.read;
+  read = λ l h s. by_key_lem SET set_at set_is c.assignment.result l (ahead c.args.text.now c.args.found.next) c.args.text.now (take c.args.len c.args.out.now) c.assignment.new.out (at_token c.args.found.token _ (take (c.args.found.next - c.args.found.start) (drop c.args.found.start c.args.text.now)) l _ h (begins_is c.args.found.token begin.Set (search rules))) c.assignment.ensures.read;
 }
 
-pub statement-returns-in-Sleep : goal.statement-returns-in-Sleep
-statement-returns-in-Sleep ring c = record {
+pub statement-returns-in-Some-Sleep : goal.statement-returns-in-Some-Sleep
+statement-returns-in-Some-Sleep ring c = record {
   forth = c.with_expr.ensures.forth;
-  read = λ l h s. by_key_lem SLEEP (expr_then Sleep) sleep_is c.with_expr.result l (ahead c.args.text.now c.args.found.next) c.args.text.now (take c.args.len c.args.out.now) c.with_expr.new.out (at_token c.args.found.token _ (take (c.args.found.next - c.args.found.start) (drop c.args.found.start c.args.text.now)) l _ h (begins_sleep c.args.found.token (sym c.begins.ensures ∙ c.in-Sleep.is))) (c.with_expr.ensures.read Sleep sleep_draft sleep_size);
+  read = λ l h s. by_key_lem SLEEP (expr_then Sleep) sleep_is c.with_expr.result l (ahead c.args.text.now c.args.found.next) c.args.text.now (take c.args.len c.args.out.now) c.with_expr.new.out (at_token c.args.found.token _ (take (c.args.found.next - c.args.found.start) (drop c.args.found.start c.args.text.now)) l _ h (begins_is c.args.found.token begin.Sleep (search rules))) (c.with_expr.ensures.read Sleep sleep_draft sleep_size);
 }
 
-pub statement-returns-in-If : goal.statement-returns-in-If
-statement-returns-in-If ring c = record {
+pub statement-returns-in-Some-If : goal.statement-returns-in-Some-If
+statement-returns-in-Some-If ring c = record {
   forth = c.fork.ensures.forth;
-  read = λ l h s. by_key_lem IF if_at if_is c.fork.result l (ahead c.args.text.now c.args.found.next) c.args.text.now (take c.args.len c.args.out.now) c.fork.new.out (at_token c.args.found.token _ (take (c.args.found.next - c.args.found.start) (drop c.args.found.start c.args.text.now)) l _ h (begins_if c.args.found.token (sym c.begins.ensures ∙ c.in-If.is))) c.fork.ensures.read;
+  read = λ l h s. by_key_lem IF if_at if_is c.fork.result l (ahead c.args.text.now c.args.found.next) c.args.text.now (take c.args.len c.args.out.now) c.fork.new.out (at_token c.args.found.token _ (take (c.args.found.next - c.args.found.start) (drop c.args.found.start c.args.text.now)) l _ h (begins_is c.args.found.token begin.If (search rules))) c.fork.ensures.read;
 }
 
-pub statement-returns-in-While : goal.statement-returns-in-While
-statement-returns-in-While ring c = record {
+pub statement-returns-in-Some-While : goal.statement-returns-in-Some-While
+statement-returns-in-Some-While ring c = record {
   forth = c.turning.ensures.forth;
-  read = λ l h s. by_key_lem WHILE while_at while_is c.turning.result l (ahead c.args.text.now c.args.found.next) c.args.text.now (take c.args.len c.args.out.now) c.turning.new.out (at_token c.args.found.token _ (take (c.args.found.next - c.args.found.start) (drop c.args.found.start c.args.text.now)) l _ h (begins_while c.args.found.token (sym c.begins.ensures ∙ c.in-While.is))) c.turning.ensures.read;
+  read = λ l h s. by_key_lem WHILE while_at while_is c.turning.result l (ahead c.args.text.now c.args.found.next) c.args.text.now (take c.args.len c.args.out.now) c.turning.new.out (at_token c.args.found.token _ (take (c.args.found.next - c.args.found.start) (drop c.args.found.start c.args.text.now)) l _ h (begins_is c.args.found.token begin.While (search rules))) c.turning.ensures.read;
 }
 
-pub statement-returns-in-Guard : goal.statement-returns-in-Guard
-statement-returns-in-Guard ring c = record {
+pub statement-returns-in-Some-Guard : goal.statement-returns-in-Some-Guard
+statement-returns-in-Some-Guard ring c = record {
   forth = c.guarded.ensures.forth;
-  read = λ l h s. by_key_lem GUARD guard_at guard_is c.guarded.result l (ahead c.args.text.now c.args.found.next) c.args.text.now (take c.args.len c.args.out.now) c.guarded.new.out (at_token c.args.found.token _ (take (c.args.found.next - c.args.found.start) (drop c.args.found.start c.args.text.now)) l _ h (begins_guard c.args.found.token (sym c.begins.ensures ∙ c.in-Guard.is))) c.guarded.ensures.read;
+  read = λ l h s. by_key_lem GUARD guard_at guard_is c.guarded.result l (ahead c.args.text.now c.args.found.next) c.args.text.now (take c.args.len c.args.out.now) c.guarded.new.out (at_token c.args.found.token _ (take (c.args.found.next - c.args.found.start) (drop c.args.found.start c.args.text.now)) l _ h (begins_is c.args.found.token begin.Guard (search rules))) c.guarded.ensures.read;
 }
 
-pub statement-returns-in-Return : goal.statement-returns-in-Return
-statement-returns-in-Return ring c = record {
-  forth = c.with_expr-in-Return.ensures.forth;
-  read = λ l h s. by_key_lem RETURN (expr_then Return) return_is c.with_expr-in-Return.result l (ahead c.args.text.now c.args.found.next) c.args.text.now (take c.args.len c.args.out.now) c.with_expr-in-Return.new.out (at_token c.args.found.token _ (take (c.args.found.next - c.args.found.start) (drop c.args.found.start c.args.text.now)) l _ h (begins_return c.args.found.token (sym c.begins.ensures ∙ c.in-Return.is))) (c.with_expr-in-Return.ensures.read Return return_draft return_size);
+pub statement-returns-in-Some-Return : goal.statement-returns-in-Some-Return
+statement-returns-in-Some-Return ring c = record {
+  forth = c.with_expr-in-Some-Return.ensures.forth;
+  read = λ l h s. by_key_lem RETURN (expr_then Return) return_is c.with_expr-in-Some-Return.result l (ahead c.args.text.now c.args.found.next) c.args.text.now (take c.args.len c.args.out.now) c.with_expr-in-Some-Return.new.out (at_token c.args.found.token _ (take (c.args.found.next - c.args.found.start) (drop c.args.found.start c.args.text.now)) l _ h (begins_is c.args.found.token begin.Return (search rules))) (c.with_expr-in-Some-Return.ensures.read Return return_draft return_size);
 }
 
-pub statement-returns-in-Fail : goal.statement-returns-in-Fail
-statement-returns-in-Fail ring c = record {
+pub statement-returns-in-Some-Fail : goal.statement-returns-in-Some-Fail
+statement-returns-in-Some-Fail ring c = record {
   forth = failure_onwards c.failure.result _ c.args.len _ c.args.out.now c.failure.new.out c.requires.within c.failure.ensures;
-  read = λ l h s. by_key_lem FAIL fail_at fail_is c.failure.result l (ahead c.args.text.now c.args.found.next) c.args.text.now (take c.args.len c.args.out.now) c.failure.new.out (at_token c.args.found.token _ (take (c.args.found.next - c.args.found.start) (drop c.args.found.start c.args.text.now)) l _ h (begins_fail c.args.found.token (sym c.begins.ensures ∙ c.in-Fail.is))) (failure_read c.failure.result c.args.text.now c.args.found.next c.args.len c.args.out.now c.failure.new.out c.requires.room c.failure.auto.out c.failure.ensures);
+  read = λ l h s. by_key_lem FAIL fail_at fail_is c.failure.result l (ahead c.args.text.now c.args.found.next) c.args.text.now (take c.args.len c.args.out.now) c.failure.new.out (at_token c.args.found.token _ (take (c.args.found.next - c.args.found.start) (drop c.args.found.start c.args.text.now)) l _ h (begins_is c.args.found.token begin.Fail (search rules))) (failure_read c.failure.result c.args.text.now c.args.found.next c.args.len c.args.out.now c.failure.new.out c.requires.room c.failure.auto.out c.failure.ensures);
 }
 
-pub statement-returns-in-Variable : goal.statement-returns-in-Variable
-statement-returns-in-Variable ring c = record {
+pub statement-returns-in-Some-Variable : goal.statement-returns-in-Some-Variable
+statement-returns-in-Some-Variable ring c = record {
   forth = c.behind_variable.ensures.forth;
-  read = λ l h s. by_variable c.in-Variable.v c.behind_variable.result l (ahead c.args.text.now c.args.found.next) c.args.text.now (take c.args.len c.args.out.now) c.behind_variable.new.out (at_token c.args.found.token _ (take (c.args.found.next - c.args.found.start) (drop c.args.found.start c.args.text.now)) l _ h (begins_variable_lem c.args.found.token c.in-Variable.v (sym c.begins.ensures ∙ c.in-Variable.is))) c.behind_variable.ensures.read;
+  read = λ l h s. by_variable c.in-Some-Variable.v c.behind_variable.result l (ahead c.args.text.now c.args.found.next) c.args.text.now (take c.args.len c.args.out.now) c.behind_variable.new.out (at_token c.args.found.token _ (take (c.args.found.next - c.args.found.start) (drop c.args.found.start c.args.text.now)) l _ h (begins_is c.args.found.token (begin.Variable c.in-Some-Variable.v) (search rules))) c.behind_variable.ensures.read;
 }
 
-pub statement-returns-in-Nothing : goal.statement-returns-in-Nothing
-statement-returns-in-Nothing ring c = record { forth = tt; read = λ l h s. no_statement _ c.args.found.token (take (c.args.found.next - c.args.found.start) (drop c.args.found.start c.args.text.now)) l _ h s (sym c.begins.ensures ∙ c.in-Nothing.is) }
+pub statement-returns-in-None : goal.statement-returns-in-None
+statement-returns-in-None ring c = record { forth = tt; read = λ l h s. no_statement _ c.args.found.token (take (c.args.found.next - c.args.found.start) (drop c.args.found.start c.args.text.now)) l _ h s (sym c.begins.ensures ∙ c.in-None.is) }
 
 pub part-returns-then-ends : goal.part-returns-then-ends
 part-returns-then-ends ring c =

@@ -1,17 +1,19 @@
-use Rattle.std.proofs.Common.{◌-◌, [], length, take, drop, Ok, Err, sym, ap, ◌∙◌, le_refl, arith}
+use Rattle.std.proofs.Common.{rules, ◌≡◌, ◌-◌, [], length, take, drop, Ok, Err, ap, ◌∙◌, le_refl, arith}
 use Rattle.std.proofs.lemmas.Result.{err_from_is_err_and}
 use Rattle.text.specs.Lexer.{both}
 use Rattle.text.specs.Ahead.{ahead, means, taken}
 use Rattle.text.specs.declared.Token.{Token}
+use Rattle.text.specs.declared.Token.TheVariants as is
+use Rattle.text.specs.declared.Key.TheVariants as word
 use Rattle.reading.specs.Statements.{args_at}
 use Rattle.reading.proofs.Taking.{stop_end, onward}
 use Rattle.reading.proofs.Steps.{whole_read}
-use Rattle.reading.proofs.Tasked.{args_close, close_token, still_open, args_took, args_bar_comma, args_bar_many, args_bar_expr, args_bar_rest, no_args_words, args_read, args_on}
+use Rattle.reading.proofs.Tasked.{args_close, still_open, args_took, args_bar_comma, args_bar_many, args_bar_expr, args_bar_rest, no_args_words, args_read, args_on}
 use Rattle.reading.proofs.tasks.+more_arguments.Goals as goal
 
-pub returns-then-closes : goal.returns-then-closes
-returns-then-closes ring c =
-    let t = close_token c.token_at-found.result.token (sym c.closes.ensures ∙ c.if-closes.true) in
+pub returns-then-eq : goal.returns-then-eq
+returns-then-eq ring c =
+    let t : c.token_at-found.result.token ≡ is.Key word.Close = search rules in
     let a = c.token_at-found.ensures.ahead ∙ ap (λ (x : Token). both (means x (take (c.token_at-found.result.next - c.token_at-found.result.start) (drop c.token_at-found.result.start c.args.text.now))) (ahead c.args.text.now c.token_at-found.result.next)) t in
     let o = onward c.args.at.pos c.token_at-found.result (length c.args.text.now) c.token_at-found.ensures.forth c.requires.within (ap taken t) in
     record {
@@ -22,15 +24,15 @@ returns-then-closes ring c =
 pub returns-in_err-next : goal.returns-in_err-next
 returns-in_err-next ring c =
     let q = err_from_is_err_and c.from_residual.result c.from_residual.ensures.1 in
-    rw q.1 (record { forth = tt; read = args_bar_comma _ (still_open c.token_at-found.result.token (take (c.token_at-found.result.next - c.token_at-found.result.start) (drop c.token_at-found.result.start c.args.text.now)) (ahead c.args.text.now c.args.at.pos) (ahead c.args.text.now c.token_at-found.result.next) c.token_at-found.ensures.ahead (stop_end c.args.text.now c.args.at.pos c.token_at-found.result c.token_at-found.ensures.forth) (sym c.closes.ensures ∙ c.if-closes.false)) c.in_err-next.ensures })
+    rw q.1 (record { forth = tt; read = args_bar_comma _ (still_open c.token_at-found.result.token (take (c.token_at-found.result.next - c.token_at-found.result.start) (drop c.token_at-found.result.start c.args.text.now)) (ahead c.args.text.now c.args.at.pos) (ahead c.args.text.now c.token_at-found.result.next) c.token_at-found.ensures.ahead (stop_end c.args.text.now c.args.at.pos c.token_at-found.result c.token_at-found.ensures.forth) (λ e. search rules)) c.in_err-next.ensures })
 
 pub returns-then-count-ge-MOST_ARGUMENTS : goal.returns-then-count-ge-MOST_ARGUMENTS
-returns-then-count-ge-MOST_ARGUMENTS ring c = record { forth = tt; read = args_bar_many _ _ c.args.count _ (still_open c.token_at-found.result.token (take (c.token_at-found.result.next - c.token_at-found.result.start) (drop c.token_at-found.result.start c.args.text.now)) (ahead c.args.text.now c.args.at.pos) (ahead c.args.text.now c.token_at-found.result.next) c.token_at-found.ensures.ahead (stop_end c.args.text.now c.args.at.pos c.token_at-found.result c.token_at-found.ensures.forth) (sym c.closes.ensures ∙ c.if-closes.false)) c.if-count-ge-MOST_ARGUMENTS.true }
+returns-then-count-ge-MOST_ARGUMENTS ring c = record { forth = tt; read = args_bar_many _ _ c.args.count _ (still_open c.token_at-found.result.token (take (c.token_at-found.result.next - c.token_at-found.result.start) (drop c.token_at-found.result.start c.args.text.now)) (ahead c.args.text.now c.args.at.pos) (ahead c.args.text.now c.token_at-found.result.next) c.token_at-found.ensures.ahead (stop_end c.args.text.now c.args.at.pos c.token_at-found.result c.token_at-found.ensures.forth) (λ e. search rules)) c.if-count-ge-MOST_ARGUMENTS.true }
 
 pub returns-in_err-c : goal.returns-in_err-c
 returns-in_err-c ring c =
     let q = err_from_is_err_and c.from_residual-in_err-c.result c.from_residual-in_err-c.ensures.1 in
-    rw q.1 (record { forth = tt; read = args_bar_expr (length c.chain.new.out) (length (take c.args.at.len c.args.out.now)) c.args.count (still_open c.token_at-found.result.token (take (c.token_at-found.result.next - c.token_at-found.result.start) (drop c.token_at-found.result.start c.args.text.now)) (ahead c.args.text.now c.args.at.pos) (ahead c.args.text.now c.token_at-found.result.next) c.token_at-found.ensures.ahead (stop_end c.args.text.now c.args.at.pos c.token_at-found.result c.token_at-found.ensures.forth) (sym c.closes.ensures ∙ c.if-closes.false)) c.in_ok-next.ensures.0 (whole_read (Err c.in_err-c.field-0.0) c.args.text.now c.in_ok-next.next (take c.args.at.len c.args.out.now) c.chain.new.out c.in_err-c.ensures.read) })
+    rw q.1 (record { forth = tt; read = args_bar_expr (length c.chain.new.out) (length (take c.args.at.len c.args.out.now)) c.args.count (still_open c.token_at-found.result.token (take (c.token_at-found.result.next - c.token_at-found.result.start) (drop c.token_at-found.result.start c.args.text.now)) (ahead c.args.text.now c.args.at.pos) (ahead c.args.text.now c.token_at-found.result.next) c.token_at-found.ensures.ahead (stop_end c.args.text.now c.args.at.pos c.token_at-found.result c.token_at-found.ensures.forth) (λ e. search rules)) c.in_ok-next.ensures.0 (whole_read (Err c.in_err-c.field-0.0) c.args.text.now c.in_ok-next.next (take c.args.at.len c.args.out.now) c.chain.new.out c.in_err-c.ensures.read) })
 
 pub returns : goal.returns
 returns ring c =
@@ -40,5 +42,5 @@ returns ring c =
     record {
       forth = args_on c.more_arguments.result _ _ c.args.at.pos c.args.at.len _ _ (length c.args.out.now) (omega (arith, n.1, f.0)) f.2 c.chain.auto.out c.more_arguments.ensures.forth;
       read = args_read c.more_arguments.result args_at args_at w.tree _ _ c.args.text.now c.args.out.now c.chain.new.out c.more_arguments.new.out c.args.at.len c.in_ok-c.c.len c.args.count c.requires.room (omega (arith, f.3, c.chain.auto.out)) c.chain.auto.out c.more_arguments.auto.out w.words
-          (λ es k y. args_took w.tree es (still_open c.token_at-found.result.token (take (c.token_at-found.result.next - c.token_at-found.result.start) (drop c.token_at-found.result.start c.args.text.now)) (ahead c.args.text.now c.args.at.pos) (ahead c.args.text.now c.token_at-found.result.next) c.token_at-found.ensures.ahead (stop_end c.args.text.now c.args.at.pos c.token_at-found.result c.token_at-found.ensures.forth) (sym c.closes.ensures ∙ c.if-closes.false)) n.0 w.took y) (λ at is y. args_bar_rest (length c.more_arguments.new.out) (length (take c.args.at.len c.args.out.now)) at c.args.count w.tree (still_open c.token_at-found.result.token (take (c.token_at-found.result.next - c.token_at-found.result.start) (drop c.token_at-found.result.start c.args.text.now)) (ahead c.args.text.now c.args.at.pos) (ahead c.args.text.now c.token_at-found.result.next) c.token_at-found.ensures.ahead (stop_end c.args.text.now c.args.at.pos c.token_at-found.result c.token_at-found.ensures.forth) (sym c.closes.ensures ∙ c.if-closes.false)) is n.0 w.took y) c.more_arguments.ensures.read;
+          (λ es k y. args_took w.tree es (still_open c.token_at-found.result.token (take (c.token_at-found.result.next - c.token_at-found.result.start) (drop c.token_at-found.result.start c.args.text.now)) (ahead c.args.text.now c.args.at.pos) (ahead c.args.text.now c.token_at-found.result.next) c.token_at-found.ensures.ahead (stop_end c.args.text.now c.args.at.pos c.token_at-found.result c.token_at-found.ensures.forth) (λ e. search rules)) n.0 w.took y) (λ at is y. args_bar_rest (length c.more_arguments.new.out) (length (take c.args.at.len c.args.out.now)) at c.args.count w.tree (still_open c.token_at-found.result.token (take (c.token_at-found.result.next - c.token_at-found.result.start) (drop c.token_at-found.result.start c.args.text.now)) (ahead c.args.text.now c.args.at.pos) (ahead c.args.text.now c.token_at-found.result.next) c.token_at-found.ensures.ahead (stop_end c.args.text.now c.args.at.pos c.token_at-found.result c.token_at-found.ensures.forth) (λ e. search rules)) is n.0 w.took y) c.more_arguments.ensures.read;
     }

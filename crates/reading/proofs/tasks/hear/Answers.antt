@@ -13,8 +13,10 @@ returns-in_err-front c =
     let q = err_from_is_err_and c.from_residual.result c.from_residual.ensures.1 in
     rw q.1 (record { forth = tt; read = hear_bar_front c.args.v c.args.out.now c.args.len _ c.requires.room c.in_err-front.ensures })
 
-pub returns-then-out-len-lt68 : goal.returns-then-out-len-lt68
-returns-then-out-len-lt68 c = record { forth = tt; read = hear_bar_room c.args.v c.args.out.now c.args.len (length c.args.out.now) c.requires.room _ (omega arith) }
+pub returns-in_err-room : goal.returns-in_err-room
+returns-in_err-room c =
+    let q = err_from_is_err_and c.from_residual-in_err-room.result c.from_residual-in_err-room.ensures.1 in
+    rw q.1 (record { forth = tt; read = hear_bar_room c.args.v c.args.out.now c.args.len (length c.args.out.now) c.requires.room _ (omega (arith, c.in_err-room.ensures)) })
 
 pub returns-in_err-c : goal.returns-in_err-c
 returns-in_err-c c =

@@ -1,12 +1,11 @@
-use Rattle.std.proofs.Common.{◌-◌, length, take, drop, sym, ◌∙◌}
-use Rattle.text.specs.Ahead.{ahead}
-use Rattle.reading.proofs.Taking.{stop_end, onward, same_yes, same_no}
+use Rattle.std.proofs.Common.{rules, ◌≡◌}
+use Rattle.text.specs.declared.Token.TheVariants as is
+use Rattle.text.specs.declared.Operator.TheVariants as by
+use Rattle.reading.proofs.Taking.{same_took, same_refused}
 use Rattle.reading.proofs.tokens.same.Goals as goal
 
-pub returns-then-is_same : goal.returns-then-is_same
-returns-then-is_same c =
-    let y = same_yes c.token_at-found.result.token (take (c.token_at-found.result.next - c.token_at-found.result.start) (drop c.token_at-found.result.start c.args.text.now)) (ahead c.args.text.now c.args.pos) (ahead c.args.text.now c.token_at-found.result.next) c.token_at-found.ensures.ahead (sym c.is_same.ensures ∙ c.if-is_same.true) in
-    (y.0, onward c.args.pos c.token_at-found.result (length c.args.text.now) c.token_at-found.ensures.forth c.requires y.1)
+pub returns-then-eq : goal.returns-then-eq
+returns-then-eq c = same_took c.args.text.now c.args.pos c.token_at-found.result c.token_at-found.ensures.ahead c.token_at-found.ensures.forth c.requires (search rules)
 
-pub returns : goal.returns
-returns c = same_no c.token_at-found.result.token _ _ _ c.token_at-found.ensures.ahead (stop_end c.args.text.now c.args.pos c.token_at-found.result c.token_at-found.ensures.forth) (sym c.is_same.ensures ∙ c.if-is_same.false)
+pub returns-else-eq : goal.returns-else-eq
+returns-else-eq c = let other : c.token_at-found.result.token ≡ is.Operator by.Same → ⊥ = λ e. search rules in same_refused c.args.text.now c.args.pos c.token_at-found.result c.token_at-found.ensures.ahead c.token_at-found.ensures.forth c.requires c.at.result other

@@ -2,7 +2,7 @@ use Rattle.std.proofs.Common.{◌≡◌, ℕ, ◌+◌, ◌-◌, ◌*◌, ◌≤�
 use Rattle.plans.specs.Plan.{Block, block_ok}
 use Rattle.printing.specs.Heads.{PartAt}
 use Rattle.printing.proofs.Parts.{Goes}
-use Rattle.printing.proofs.+print_braced_print_guard_print_if_print_part_print_statement_print_while.Given as goal
+use Rattle.printing.proofs.+parts.Given as goal
 
 abbrev pub decreases-print_braced : goal.decreases-print_braced
 decreases-print_braced l = 4 * (length l.words.now - l.at) + 3
@@ -22,9 +22,9 @@ decreases-print_while l = 4 * (length l.words.now - l.at)
 abbrev pub decreases-print_guard : goal.decreases-print_guard
 decreases-print_guard l = 4 * (length l.words.now - l.at)
 
-abbrev pub invariant-print_part-loop-at : goal.invariant-print_part-loop-at
-invariant-print_part-loop-at l =
-    (l.at ≤ l.here) × ((d : ℕ) (b : Block) (rest : List ℕ) → l.depth ≡ min d 32 → PartAt l.words l.at b rest → block_ok b ≡ true → Goes l.words l.here d b rest (vec_items l.initial.out) (vec_items l.out))
+abbrev pub invariant-print_part-loop-depth : goal.invariant-print_part-loop-depth
+invariant-print_part-loop-depth l =
+    (l.at ≤ l.here) × ((d : ℕ) (b : Block) (rest : List ℕ) → l.depth.parts ≡ min d 32 → PartAt l.words l.at b rest → block_ok b ≡ true → Goes l.words l.here d b rest (vec_items l.initial.out) (vec_items l.out))
 
-abbrev pub decreases-print_part-loop-at : goal.decreases-print_part-loop-at
-decreases-print_part-loop-at l = length l.words - l.here
+abbrev pub decreases-print_part-loop-depth : goal.decreases-print_part-loop-depth
+decreases-print_part-loop-depth l = length l.words - l.here

@@ -1,5 +1,5 @@
 use Rattle.std.proofs.Common.{◌+◌, ◌*◌}
-use Rattle.printing.proofs.+print_expr_print_not_print_operation.Given as goal
+use Rattle.printing.proofs.+exprs.Given as goal
 
 abbrev pub decreases-print_expr : goal.decreases-print_expr
 decreases-print_expr l = 2 * l.root + 1

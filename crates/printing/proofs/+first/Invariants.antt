@@ -1,5 +1,5 @@
 use Rattle.std.proofs.Common.{◌+◌, ◌*◌}
-use Rattle.printing.proofs.+first_before_first_unit.Given as goal
+use Rattle.printing.proofs.+first.Given as goal
 
 abbrev pub decreases-first_unit : goal.decreases-first_unit
 decreases-first_unit l = 2 * l.root + 1

@@ -1,10 +1,11 @@
-use Rattle.std.proofs.Common.{codes, arith}
+use Rattle.std.proofs.Common.{◌∙◌, codes, arith}
 use Rattle.text.specs.Ahead.{operator_meant}
 use Rattle.printing.specs.Levels.{level_meant}
 use Rattle.printing.proofs.Adds.{then_wrote}
-use Rattle.printing.proofs.Arms.{room_arm, low_arm, literal_arm, variable_arm, negation_arm, operation_arm, operated, of_left, of_right}
+use Rattle.printing.proofs.Arms.{before_some, room_arm, low_arm, literal_arm, variable_arm, negation_arm, operation_arm, operated, of_left, of_right}
+use Rattle.printing.proofs.Ranks.{level_le}
 use Rattle.printing.proofs.Exits.{Fine, fine_wrote, wrote_exit}
-use Rattle.printing.proofs.+print_expr_print_not_print_operation.Goals as goal
+use Rattle.printing.proofs.+exprs.Goals as goal
 
 pub print_expr-returns-then-not-holds : goal.print_expr-returns-then-not-holds
 print_expr-returns-then-not-holds t c = λ e x g. room_arm c.args.words.now c.args.root c.if-not-holds.ensures e x
@@ -31,17 +32,17 @@ print_not-returns t c = λ e h x g. then_wrote c.print_expr.result _ _ _ (codes 
 pub print_operation-returns-in_err-print_expr : goal.print_operation-returns-in_err-print_expr
 print_operation-returns-in_err-print_expr t c = λ o a b x g.
     wrote_exit c.from_residual-in_err-print_expr.result c.in_err-print_expr.field-0.0 _ _ _ c.from_residual-in_err-print_expr.ensures.1
-    (of_left c.args.words.now c.args.low c.args.root c.in-Some-root_before.left (Fine c.in_err-print_expr.field-0.0) c.in-Some-root_before.ensures o a b x g
+    (of_left c.args.words.now c.args.low c.args.root c.in_ok-left.left (Fine c.in_err-print_expr.field-0.0) (before_some _ _ _ _ c.root_before.ensures (grind arith)) o a b x g
     (λ e y h. fine_wrote c.in_err-print_expr.field-0.0 _ _ _ (c.in_err-print_expr.ensures e y h)))
 
 pub print_operation-returns-in_err-print_expr-2 : goal.print_operation-returns-in_err-print_expr-2
 print_operation-returns-in_err-print_expr-2 t c = λ o a b x g.
     wrote_exit c.from_residual-in_err-print_expr-2.result c.in_err-print_expr-2.field-0.0 _ _ _ c.from_residual-in_err-print_expr-2.ensures.1
-    (of_right c.args.words.now c.args.low c.args.root c.in-Some-root_before.left (Fine c.in_err-print_expr-2.field-0.0) c.in-Some-root_before.ensures o a b x
+    (of_right c.args.words.now c.args.low c.args.root c.in_ok-left.left (Fine c.in_err-print_expr-2.field-0.0) (before_some _ _ _ _ c.root_before.ensures (grind arith)) o a b x
     (λ e y h. fine_wrote c.in_err-print_expr-2.field-0.0 _ _ _ (c.in_err-print_expr-2.ensures e y h)))
 
 pub print_operation-returns : goal.print_operation-returns
 print_operation-returns t c =
-    operated c.args.words.now c.args.low c.args.root c.in-Some-root_before.left (operator_meant c.in-Some.operator) _ (level_meant c.args.level) (level_meant c.own_level.result) (level_meant c.own_level-2.result) (level_meant c.right_level.result)
-    c.put_unless-2.result _ _ _ _ _ _ c.in-Some.ensures c.in-Some-root_before.ensures (let a = c.rank.ensures in let b = c.rank-2.ensures in cc) c.own_level.ensures c.own_level-2.ensures c.right_level.ensures
+    operated c.args.words.now c.args.low c.args.root c.in_ok-left.left (operator_meant c.in_ok-operator.operator) _ (level_meant c.args.level) (level_meant c.own_level.result) (level_meant c.own_level-2.result) (level_meant c.right_level.result)
+    c.put_unless-2.result _ _ _ _ _ _ c.in_ok-operator.ensures (before_some _ _ _ _ c.root_before.ensures (grind arith)) (c.le-fits.ensures ∙ level_le c.own_level.result c.args.level) c.own_level.ensures c.own_level-2.ensures c.right_level.ensures
     c.in_ok-put_unless.ensures c.in_ok-print_expr.ensures c.in_ok-put_operator.ensures c.in_ok-print_expr-2.ensures c.put_unless-2.ensures
