@@ -13,6 +13,11 @@ ghost use Rattle.device.specs.Images.{Image, Agree, Rules};
 ghost use Rattle.device.specs.Flips.{FlipStands, FlipCosts};
 ghost use Rattle.device.specs.Costs.{CostsBound};
 
+// The fewest and the most lines that a memory of a house may have.
+pub const FEWEST_LINES: u64 = 32_768;
+
+pub const MOST_LINES: u64 = 1_099_511_627_776;
+
 // A memory in lines. Its contracts say which operation was done, and what a load gave; they do not say that a load gives what was stored
 // last, since no program can prove that of a device. So code over a `Device` tests what it reads.
 pub trait Device {

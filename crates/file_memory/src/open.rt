@@ -4,17 +4,13 @@ ghost use Rattle.file_memory.specs.Files.{lines_of};
 
 use crate::bytes::word_at;
 use crate::memory::FileMemory;
+pub use device::{FEWEST_LINES, MOST_LINES};
 use std::alloc::{AllocError, Global};
 use std::error::Error;
 use std::fs::{OpenFile, OpenOptions};
 use std::io::{ErrorKind, Read, Seek, Write};
 use std::rt::Files;
 use std::{fmt, fs, io};
-
-// The fewest and the most lines that a file may have.
-pub const FEWEST_LINES: u64 = 32_768;
-
-pub const MOST_LINES: u64 = 1_099_511_627_776;
 
 // How many lines are held at most. A house has 1 MiB of fixed part, and twice what its 1,024 flows weigh, of which each weighs at most
 // 16,384 bytes and 16 bytes for each of 4,096 of its plan's size. Lines past these are never used, and that there is room for all of this

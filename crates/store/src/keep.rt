@@ -8,16 +8,8 @@ use crate::dir::Dir;
 use crate::root::pick;
 use crate::slot::{PageCopy, Slot};
 use blocks::{Blocks, blocks_in};
-use device::Device;
+use device::{Device, FEWEST_LINES, MOST_LINES};
 use words::{flip, load_words, save_words};
-
-// Memory has at least so many lines, and at most so many.
-pub const LEAST_LINES: u64 = 32768;
-
-pub const MOST_LINES: u64 = 1099511627776;
-
-// The words of a flow's page.
-pub const PAGE_WORDS: usize = 128;
 
 // A memory that has as many lines as a house needs, and no more than it can tell.
 #[derive(Drop)]
@@ -34,7 +26,7 @@ impl<D: Device + Drop> Memory<D> {
         ensures fits { IsSome result ↔ ((32768 ≤ D.size dev) × (D.size dev ≤ 1099511627776)) }
     {
         let lines = dev.lines();
-        if lines < LEAST_LINES || lines > MOST_LINES {
+        if lines < FEWEST_LINES || lines > MOST_LINES {
             return None;
         }
         Some(Memory { dev })
