@@ -118,6 +118,7 @@ impl Unescape {
     }
 }
 
+// A digit of a byte. No `to_digit`, which takes capital letters too.
 fn hex_digit(b: u8) -> anyhow::Result<u8> {
     match b {
         b'0'..=b'9' => Ok(b - b'0'),

@@ -4,7 +4,7 @@
 
 mod escapes;
 
-use anyhow::anyhow;
+use anyhow::{Context, anyhow};
 use escapes::{escaped, unescaped};
 use plans::kinds::MOST_WORDS;
 use plans::sheet::Slate;
@@ -25,21 +25,18 @@ fn answer(heap: Global, text: &[u8]) -> anyhow::Result<String> {
     match read(text, &mut draft, &mut slate) {
         Ok(size) => accepted(heap, size, &slate),
         Err(ReadError::NotPlan(why)) => {
-            let at = why.at;
             let expected = Wording { text, why };
-            Ok(format!(in heap; "no {at} {expected}")?)
+            Ok(format!(in heap; "no {} {expected}", why.at)?)
         }
-        Err(_) => Err(anyhow!("a plan found no room")),
+        Err(ReadError::NoRoom | ReadError::ShortDraft) => Err(anyhow!("a plan found no room")),
     }
 }
 
 // The answer about a text that is a plan.
 fn accepted(heap: Global, size: usize, slate: &Slate) -> anyhow::Result<String> {
     let mut out = Vec::new(heap);
-    if let Err(_) = print(slate.as_slice(), &mut out) {
-        return Err(anyhow!("a plan was not printed"));
-    }
-    if out.len() == 0 || out.len() > SHORT {
+    print(slate.as_slice(), &mut out).context("a plan was not printed")?;
+    if out.is_empty() || out.len() > SHORT {
         return Ok(format!(in heap; "plan {size}")?);
     }
     let shown = escaped(heap, &out)?;
@@ -48,13 +45,7 @@ fn accepted(heap: Global, size: usize, slate: &Slate) -> anyhow::Result<String> 
 
 // The answer to a line of the table.
 fn case(heap: Global, line: &str) -> anyhow::Result<String> {
-    if let Some((name, text)) = line.split_once(' ') {
-        return named(heap, name, text);
-    }
-    named(heap, line, "")
-}
-
-fn named(heap: Global, name: &str, text: &str) -> anyhow::Result<String> {
+    let (name, text) = line.split_once(' ').unwrap_or((line, ""));
     let bytes = unescaped(heap, text)?;
     let found = answer(heap, &bytes)?;
     Ok(format!(in heap; "{name} {found}")?)
