@@ -15,7 +15,8 @@ use store::keep::Memory;
 use store::root::{pick, turn_pick};
 use store::slot::Slot;
 
-// The time; the root word; the root page in force.
+// The time; the root word; the root page in force. The functions of this crate are lent the memory, this and the directory apart: a signature
+// says by `&` and `&mut` which of them a call changes, and no clause has to say that the others stay.
 #[derive(Clone, Copy)]
 pub struct Held {
     // 0 if none was told, as in the meaning, where no time is 0

@@ -1,5 +1,5 @@
 // A new flow is started.
-ghost use Rattle.std.specs.Prelude.{◌≡◌, ℕ, ◌+◌, ◌-◌, ◌*◌, ◌/◌, ◌%◌, ◌<◌, ◌≤◌, min, length, Ok, nat_le, nat_lt};
+ghost use Rattle.std.specs.Prelude.{◌≡◌, ℕ, ◌+◌, ◌-◌, ◌*◌, ◌/◌, ◌%◌, ◌<◌, ◌≤◌, ◌↔◌, min, length, IfSome, IsSome, Ok, nat_le, nat_lt};
 ghost use Rattle.device.specs.Does.{Did};
 ghost use Rattle.store.specs.Layout.{next_of, turn_at, blocks_for};
 ghost use Rattle.store.specs.Works.{flip_to};
@@ -23,6 +23,29 @@ use store::keep::Memory;
 use store::room::{blocks_for, choose, mark};
 use store::root::{pick, turn_used};
 use store::slot::Slot;
+
+// What a flow is started with: its key, its plan in the flat form, and its first words.
+#[derive(Clone, Copy)]
+pub struct NewFlow<'a> {
+    pub key: &'a [u8],
+    pub plan: &'a [u64],
+    pub words: &'a [u64],
+    ghost small: { length plan.now ≤ 16384 },
+    ghost few: { length words.now ≤ 16 },
+}
+
+impl<'a> NewFlow<'a> {
+    // None where the plan is longer than plans are, or there are more words than a flow is given.
+    pub fn new(key: &'a [u8], plan: &'a [u64], words: &'a [u64]) -> Option<NewFlow<'a>>
+        ensures same { IfSome result (λ n. (n.key.now ≡ key.entry.now) × (n.plan.now ≡ plan.entry.now) × (n.words.now ≡ words.entry.now)) }
+        ensures fits { IsSome result ↔ ((length plan.entry.now ≤ 16384) × (length words.entry.now ≤ 16)) }
+    {
+        if plan.len() > 16384 || words.len() > 16 {
+            return None;
+        }
+        Some(NewFlow { key, plan, words })
+    }
+}
 
 // Have all numbers been given out?
 fn is_spent(root: &[u64; 40]) -> bool
@@ -49,22 +72,20 @@ fn born<D: Device>(
     memory: &mut Memory<D>,
     held: &mut Held,
     dir: &mut Dir,
-    plan: &[u64],
-    key: &[u8],
+    new: &NewFlow<'_>,
     slot: Slot,
     blocks: &[u64; 18],
     flow: &Flow,
 ) -> Reply
-    requires small { length plan.now ≤ 16384 }
     requires low { next_of held.old.root < 4611686018427387904 }
-    ensures done { Done D.step (born_work (mind_of (D.size memory.old.dev) held.old dir.old) slot (entry_of (next_of held.old.root) (length plan.now / 4) key.now blocks.now) (put_entry slot (entry_of (next_of held.old.root) (length plan.now / 4) key.now blocks.now) dir.old) (bumped (turn_at 1 slot held.old.root)) plan.now flow.now) memory.old.dev (Ok result) (mind_of (D.size memory.old.dev) held.new dir.new) memory.new.dev }
+    ensures done { Done D.step (born_work (mind_of (D.size memory.old.dev) held.old dir.old) slot (entry_of (next_of held.old.root) (length new.now.plan.now / 4) new.now.key.now blocks.now) (put_entry slot (entry_of (next_of held.old.root) (length new.now.plan.now / 4) new.now.key.now blocks.now) dir.old) (bumped (turn_at 1 slot held.old.root)) new.now.plan.now flow.now) memory.old.dev (Ok result) (mind_of (D.size memory.old.dev) held.new dir.new) memory.new.dev }
     ensures stays { D.size memory.new.dev ≡ D.size memory.old.dev }
 {
     let id = held.root[0] + 1;
-    let entry = entry_of(id, (plan.len() / 4) as u64, key, blocks);
+    let entry = entry_of(id, (new.plan.len() / 4) as u64, new.key, blocks);
     dir.put_entry(slot, &entry);
     memory.save_entry(slot, &entry);
-    memory.save_plan(dir, slot, plan);
+    memory.save_plan(dir, slot, new.plan);
     memory.save_page(dir, slot, pick(&held.root, slot), &encode(flow));
     count_in(memory, held, slot);
     Reply::Flow(FlowId(id))
@@ -75,21 +96,17 @@ fn start_blocks<D: Device>(
     memory: &mut Memory<D>,
     held: &mut Held,
     dir: &mut Dir,
-    plan: &[u64],
+    new: &NewFlow<'_>,
     stack: &mut [u64; 4096],
-    key: &[u8],
-    given: &[u64],
     slot: Slot,
     blocks: &[u64; 18],
 ) -> Result<Reply, Damaged>
-    requires small { length plan.now ≤ 16384 }
-    requires given { length given.now ≤ 16 }
     requires low { next_of held.old.root < 4611686018427387904 }
-    ensures done { Done D.step (start_blocks key.now (length plan.now / 4) plan.now given.now (mind_of (D.size memory.old.dev) held.old dir.old) slot blocks.now) memory.old.dev result (mind_of (D.size memory.old.dev) held.new dir.new) memory.new.dev }
+    ensures done { Done D.step (start_blocks new.now.key.now (length new.now.plan.now / 4) new.now.plan.now new.now.words.now (mind_of (D.size memory.old.dev) held.old dir.old) slot blocks.now) memory.old.dev result (mind_of (D.size memory.old.dev) held.new dir.new) memory.new.dev }
     ensures stays { D.size memory.new.dev ≡ D.size memory.old.dev }
 {
-    let flow = begin(plan, given, held.time, stack)?;
-    Ok(born(memory, held, dir, plan, key, slot, blocks, &flow))
+    let flow = begin(new.plan, new.words, held.time, stack)?;
+    Ok(born(memory, held, dir, new, slot, blocks, &flow))
 }
 
 // Does a plan of this size surely fit?
@@ -130,22 +147,18 @@ fn start_free<D: Device>(
     memory: &mut Memory<D>,
     held: &mut Held,
     dir: &mut Dir,
-    plan: &[u64],
+    new: &NewFlow<'_>,
     stack: &mut [u64; 4096],
     marks: &mut [u64; 18432],
-    key: &[u8],
-    given: &[u64],
     slot: Slot,
 ) -> Result<Reply, Damaged>
-    requires small { length plan.now ≤ 16384 }
-    requires given { length given.now ≤ 16 }
-    ensures done { Done D.step (start_free key.now (length plan.now / 4) plan.now given.now (mind_of (D.size memory.old.dev) held.old dir.old) slot) memory.old.dev result (mind_of (D.size memory.old.dev) held.new dir.new) memory.new.dev }
+    ensures done { Done D.step (start_free new.now.key.now (length new.now.plan.now / 4) new.now.plan.now new.now.words.now (mind_of (D.size memory.old.dev) held.old dir.old) slot) memory.old.dev result (mind_of (D.size memory.old.dev) held.new dir.new) memory.new.dev }
     ensures stays { D.size memory.new.dev ≡ D.size memory.old.dev }
 {
     if is_spent(&held.root) {
         return Ok(Reply::No(Refusal::NoMore));
     }
-    let size = plan.len() / 4;
+    let size = new.plan.len() / 4;
     let lines = memory.dev.lines();
     if is_tight(lines, &held.root, dir, size) {
         return Ok(Reply::Full);
@@ -153,7 +166,7 @@ fn start_free<D: Device>(
     let Some(blocks) = choose_blocks(lines, &held.root, dir, marks, size) else {
         return Err(Damaged);
     };
-    start_blocks(memory, held, dir, plan, stack, key, given, slot, &blocks)
+    start_blocks(memory, held, dir, new, stack, slot, &blocks)
 }
 
 // Starts a flow under a key, unless there is one: then it is that one.
@@ -161,22 +174,18 @@ pub fn start<D: Device>(
     memory: &mut Memory<D>,
     held: &mut Held,
     dir: &mut Dir,
-    plan: &[u64],
+    new: &NewFlow<'_>,
     stack: &mut [u64; 4096],
     marks: &mut [u64; 18432],
-    key: &[u8],
-    given: &[u64],
 ) -> Result<Reply, Damaged>
-    requires small { length plan.now ≤ 16384 }
-    requires given { length given.now ≤ 16 }
-    ensures done { Done D.step (start_work key.now (length plan.now / 4) plan.now given.now (mind_of (D.size memory.old.dev) held.old dir.old)) memory.old.dev result (mind_of (D.size memory.old.dev) held.new dir.new) memory.new.dev }
+    ensures done { Done D.step (start_work new.now.key.now (length new.now.plan.now / 4) new.now.plan.now new.now.words.now (mind_of (D.size memory.old.dev) held.old dir.old)) memory.old.dev result (mind_of (D.size memory.old.dev) held.new dir.new) memory.new.dev }
     ensures stays { D.size memory.new.dev ≡ D.size memory.old.dev }
 {
-    if let Some(slot) = dir.find_key(&held.root, key) {
+    if let Some(slot) = dir.find_key(&held.root, new.key) {
         return Ok(Reply::Flow(FlowId(dir.id_at(slot))));
     }
     let Some(slot) = free_slot(&held.root) else {
         return Ok(Reply::No(Refusal::NoMore));
     };
-    start_free(memory, held, dir, plan, stack, marks, key, given, slot)
+    start_free(memory, held, dir, new, stack, marks, slot)
 }

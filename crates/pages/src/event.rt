@@ -1,5 +1,5 @@
 // What an event does to a flow with its task.
-ghost use Rattle.std.specs.Prelude.{◌≡◌, ◌≤◌, length, if◌then◌else◌, nat_lt};
+ghost use Rattle.std.specs.Prelude.{◌≡◌, ◌≤◌, length, if◌then◌else◌, nat_lt, Some as some};
 ghost use Rattle.runs.specs.Steps.{wishes};
 ghost use Rattle.pages.specs.Events.{task_from, ran_on, first_vars, begun, worked_on, again as next_try, wrong_on, wakes_on, ticked_on};
 ghost use Rattle.pages.specs.Holds.{BeginsAs, WorksAs, WrongAs, TicksAs};
@@ -13,26 +13,27 @@ use runs::flow::run;
 use runs::step::{Phase, Place, Wish, first_args};
 use runs::time::Time;
 
-// What is wished for is a task that is due at once.
+// The task that is wished for, due at once.
+fn wished(wish: Wish, time: Time) -> Task
+    ensures { some result ≡ task_from time (wishes (some wish)) }
+{
+    let count = wish.count.min(16);
+    let args = first_args(&wish.args, count);
+    Task {
+        kind: wish.kind,
+        args,
+        count,
+        attempt: 1,
+        tries: wish.tries,
+        pause: wish.pause,
+        standing: Standing::Due { at: time.ms() },
+    }
+}
+
 fn task_of(wish: Option<Wish>, time: Time) -> Option<Task>
     ensures { result ≡ task_from time (wishes wish) }
 {
-    match wish {
-        Some(wish) => {
-            let count = wish.count.min(16);
-            let args = first_args(&wish.args, count);
-            Some(Task {
-                kind: wish.kind,
-                args,
-                count,
-                attempt: 1,
-                tries: wish.tries,
-                pause: wish.pause,
-                standing: Standing::Due { at: time.ms() },
-            })
-        }
-        None => None,
-    }
+    wish.map(|wish| wished(wish, time))
 }
 
 // It goes on by itself, up to a thousand moves.

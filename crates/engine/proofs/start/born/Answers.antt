@@ -20,10 +20,10 @@ returns g c =
     let e1 = c.save_entry.ensures.stays in
     let e2 = c.save_plan.ensures.stays ∙ e1 in
     let e3 = c.save_page.ensures.stays ∙ e2 in
-    let d2 = subst (λ n. Did step (save_plan n d i c.args.plan.now) c.save_entry.new.self.dev tt c.save_plan.new.self.dev) e1 c.save_plan.ensures.did in
+    let d2 = subst (λ n. Did step (save_plan n d i c.args.new.now.plan.now) c.save_entry.new.self.dev tt c.save_plan.new.self.dev) e1 c.save_plan.ensures.did in
     let d3 = subst (λ n. Did step (save_page n d i c.pick.result c.encode.result) c.save_plan.new.self.dev tt c.save_page.new.self.dev) e2 c.save_page.ensures.did in
     record {
-      done = born_all step x i c.pick.result es _ d q c.args.plan.now c.encode.result c.args.flow.now _ _ c.pick.ensures c.encode.ensures refl
+      done = born_all step x i c.pick.result es _ d q c.args.new.now.plan.now c.encode.result c.args.flow.now _ _ c.pick.ensures c.encode.ensures refl
           c.entry_of-entry.ensures c.put_entry.ensures (ap (λ h. mind_of n h d) c.count_in.ensures.held) c.save_entry.ensures.did d2 d3 c.count_in.ensures.did;
       stays = c.count_in.ensures.stays ∙ e3;
     }
