@@ -86,17 +86,13 @@ impl<F: Write + Seek + OpenFile> Device for FileMemory<F> {
     fn push(&mut self, line: u64) {
         if self.trouble.is_none() {
             let bytes = line_bytes(self.words.as_slice(), (line * 8) as usize);
-            if let Err(e) = self.write_line(line.wrapping_mul(64), &bytes) {
-                self.trouble = Some(e);
-            }
+            self.trouble = self.write_line(line.wrapping_mul(64), &bytes).err();
         }
     }
 
     fn fence(&mut self) {
         if self.trouble.is_none() {
-            if let Err(e) = self.file.sync_data() {
-                self.trouble = Some(e);
-            }
+            self.trouble = self.file.sync_data().err();
         }
     }
 }

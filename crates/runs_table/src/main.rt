@@ -3,7 +3,7 @@
 // no word ever comes. A plan is left alone after twenty runs.
 #![tactic(auto)]
 
-use anyhow::anyhow;
+use anyhow::{Context, anyhow};
 use plans::kinds::MOST_WORDS;
 use plans::sheet::Slate;
 use reading::read;
@@ -53,12 +53,8 @@ fn turn(
     vars: &mut [u64; 64],
     stack: &mut [u64],
 ) -> anyhow::Result<Done> {
-    let Some(now) = Time::new(time) else {
-        return Err(anyhow!("a run can't be made"));
-    };
-    let Ok(ran) = run(words, place, now, vars, stack) else {
-        return Err(anyhow!("damaged words"));
-    };
+    let now = Time::new(time).context("a run can't be made")?;
+    let ran = run(words, place, now, vars, stack).context("damaged words")?;
     after(words, ran, time, vars)
 }
 
@@ -72,15 +68,11 @@ fn after(words: &[u64], ran: Ran, time: u64, vars: &mut [u64; 64]) -> anyhow::Re
             time,
         }),
         Phase::Tasked { .. } => {
-            let Some(wish) = ran.moved.wish else {
-                return Err(anyhow!("a task with no wish"));
-            };
+            let wish = ran.moved.wish.context("a task with no wish")?;
             if place.into >= 64 {
                 return Err(anyhow!("a result with no variable"));
             }
-            let Ok(next) = task_done(words, place, result_of(wish), vars) else {
-                return Err(anyhow!("damaged words"));
-            };
+            let next = task_done(words, place, result_of(wish), vars).context("damaged words")?;
             Ok(Done {
                 ran,
                 next: Some(next),
@@ -142,9 +134,7 @@ fn carried(
 fn case(heap: Global, name: &str, text: &[u8]) -> anyhow::Result<String> {
     let mut draft = vec![in heap; 0u64; MOST_WORDS]?;
     let mut slate = Slate::new(heap, MOST_WORDS)?;
-    let Ok(_) = read(text, &mut draft, &mut slate) else {
-        return Err(anyhow!("no plan"));
-    };
+    read(text, &mut draft, &mut slate).context("no plan")?;
     let mut vars = [0; 64];
     let mut stack = vec![in heap; 0u64; 4096]?;
     carried(heap, name, slate.as_slice(), &mut vars, &mut stack)
@@ -154,9 +144,10 @@ fn answers(rt: &HostRuntime) -> anyhow::Result<()> {
     let heap = rt.alloc();
     for line in BufReader::new(heap, rt.stdin())?.lines(heap) {
         let line = line?;
-        let Some((name, text)) = line.as_str().split_once(' ') else {
-            return Err(anyhow!("a line needs a name and a plan"));
-        };
+        let (name, text) = line
+            .as_str()
+            .split_once(' ')
+            .context("a line needs a name and a plan")?;
         let shown = case(heap, name, text.as_bytes())?;
         println!(rt; "{shown}")?;
     }
