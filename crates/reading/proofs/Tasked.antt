@@ -591,7 +591,7 @@ pub args_read : (r : Result Args NoPlan) (p q : Family (List Expr)) (e : Expr) (
     ((es : List Expr) (k : Lexed) → Took p es m k → Took q (e ∷ es) l k) → ((at : ℕ) → at ≡ length (take len xs) + 4 * expr_size e → Bars p (Many (length zs) at (count + 1)) m → Bars q (Many (length zs) (length (take len xs)) count) l) →
     ReadArgs r p m text (take n ys) (count + 1) zs → ReadArgs r q l text (take len xs) count zs
 args_read (Ok a) p q e l m text xs ys zs len n count fits lim same same2 w f g h =
-    record { items = e ∷ h.items; took = f h.items _ h.took; words = args_words ys xs zs n len a.len e h.items w h.words; counted = h.counted ∙ omega arith; few = h.few }
+    record { items = e ∷ h.items; took = f h.items _ h.took; words = args_words ys xs zs n len a.at.len e h.items w h.words; counted = h.counted ∙ omega arith; few = h.few }
 args_read (Err x) p q e l m text xs ys zs len n count fits lim same same2 w f g h = g (length (take n ys)) (length-take-le n ys lim ∙ long code_of expr_size code_length ys (take len xs) e n w lim) h
 
 pub args_on : (r : Result Args NoPlan) (next len n m bytes room all : ℕ) → n ≤ next → m ≤ len → room ≡ all → ArgsOn r next len bytes room → ArgsOn r n m bytes all

@@ -30,8 +30,8 @@ Many room len count es = (room < len + 4 * sizes es) ⊎ (16 < count + length es
 
 pub record ReadItems (p : Family (List Expr)) (l : Lexed) (text pre : List ℕ) (count : ℕ) (a : Args) (ys : List ℕ) : Type 0 where
   pub items : List Expr
-  pub took : Took p items l (ahead text a.pos)
-  pub words : take a.len ys ≡ pre ++ codes_of items
+  pub took : Took p items l (ahead text a.at.pos)
+  pub words : take a.at.len ys ≡ pre ++ codes_of items
   pub counted : a.count ≡ count + length items
   pub few : a.count ≤ 16
 
@@ -40,7 +40,7 @@ ReadArgs (Ok a) p l text pre count ys = ReadItems p l text pre count a ys
 ReadArgs (Err e) p l text pre count ys = Bars p (Many (length ys) (length pre) count) l
 
 abbrev pub ArgsOn : Result Args NoPlan → (next len bytes room : ℕ) → Type 0
-ArgsOn (Ok a) next len bytes room = (next < a.pos) × (a.pos ≤ bytes) × (len ≤ a.len) × (a.len ≤ room)
+ArgsOn (Ok a) next len bytes room = (next < a.at.pos) × (a.at.pos ≤ bytes) × (len ≤ a.at.len) × (a.at.len ≤ room)
 ArgsOn (Err e) next len bytes room = Unit {0}
 
 abbrev pub heard_of : List ℕ → Hearing → Heard

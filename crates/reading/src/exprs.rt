@@ -30,6 +30,8 @@ pub enum Opening {
 }
 
 // How far the text is read, and how many words of the draft are written.
+// Two places alone, without the text and the draft: each reader answers with a new cursor, and would have to say of either
+// that it is still the same, beside what it says of the places.
 #[derive(Clone, Copy, Debug, PartialEq, Eq)]
 pub struct Cursor {
     pub pos: usize,
@@ -76,15 +78,17 @@ fn opens(token: Token) -> Option<Opening>
     }
 }
 
-// Room for so many words more, for what begins at `start`.
-pub fn room(out: &[u64], len: usize, words: usize, start: usize) -> Result<(), NoPlan>
-    requires { len ≤ length out.now }
-    ensures { MatchResult result (λ _. len + words ≤ length out.now) (λ _. length out.now < len + words) }
-{
-    if out.len() - len < words {
-        return Err(Expected::Size.at(start));
+impl Cursor {
+    // Room for so many words more, for what begins at `start`.
+    pub fn room(self, out: &[u64], words: usize, start: usize) -> Result<(), NoPlan>
+        requires { self.len ≤ length out.now }
+        ensures { MatchResult result (λ _. self.len + words ≤ length out.now) (λ _. length out.now < self.len + words) }
+    {
+        if out.len() - self.len < words {
+            return Err(Expected::Size.at(start));
+        }
+        Ok(())
     }
-    Ok(())
 }
 
 // One unit more.
@@ -100,25 +104,25 @@ fn unit(out: &mut [u64], len: usize, kind: u64, value: u64)
 
 // A number or a variable.
 pub fn leaf(
-    found: Lexeme,
-    len: usize,
+    start: usize,
+    at: Cursor,
     kind: u64,
     value: u64,
     out: &mut [u64],
 ) -> Result<Cursor, NoPlan>
-    requires { len ≤ length out.old }
-    ensures { Leaf result found.next len kind value out.old out.new }
+    requires { at.len ≤ length out.old }
+    ensures { Leaf result at.pos at.len kind value out.old out.new }
 {
-    room(out, len, 4, found.start)?;
-    unit(out, len, kind, value);
+    at.room(out, 4, start)?;
+    unit(out, at.len, kind, value);
     Ok(Cursor {
-        pos: found.next,
-        len: len + 4,
+        len: at.len + 4,
+        ..at
     })
 }
 
 // Operations of a level and of those that bind tighter, from the left.
-#[cycle(bracket_chain_more_negation_unary)]
+#[cycle(levels)]
 pub fn chain(
     level: Level,
     text: &[u8],
@@ -139,7 +143,7 @@ pub fn chain(
 }
 
 // What is behind a first operand, whose units are the last ones written.
-#[cycle(bracket_chain_more_negation_unary)]
+#[cycle(levels)]
 fn more(
     level: Level,
     text: &[u8],
@@ -156,15 +160,15 @@ fn more(
     let Some(operator) = joins(level, found.token) else {
         return Ok(Cursor {
             pos: found.start,
-            len: at.len,
+            ..at
         });
     };
     let right = Cursor {
         pos: found.next,
-        len: at.len,
+        ..at
     };
     let c = chain(below(level), text, right, out, deep)?;
-    room(out, c.len, 4, found.start)?;
+    c.room(out, 4, found.start)?;
     unit(
         out,
         c.len,
@@ -175,8 +179,8 @@ fn more(
         level,
         text,
         Cursor {
-            pos: c.pos,
             len: c.len + 4,
+            ..c
         },
         out,
         deep,
@@ -184,84 +188,65 @@ fn more(
 }
 
 // A number, a variable, a negation or a bracket.
-#[cycle(bracket_chain_more_negation_unary)]
+#[cycle(levels)]
 fn unary(text: &[u8], at: Cursor, out: &mut [u64], deep: usize) -> Result<Cursor, NoPlan>
     requires within { at.pos ≤ length text.now }
     requires room { at.len ≤ length out.old }
     ensures forth { Further result 1 at (length text.now) (length out.old) }
     ensures read { ReadExpr result (expr_at Unary deep) text.now at.pos (take at.len out.old) out.new }
 {
-    let found = token_at(text, at.pos);
-    match opens(found.token) {
-        Some(Opening::Number(n)) => leaf(found, at.len, kinds::NUMBER, n, out),
-        Some(Opening::Variable(v)) => leaf(found, at.len, kinds::VARIABLE, v, out),
-        Some(Opening::Negation) => negation(text, found, at.len, out, deep),
-        Some(Opening::Bracket) => bracket(text, found, at.len, out, deep),
-        None => Err(Expected::Expression.at(found.start)),
+    let Lexeme { token, start, next } = token_at(text, at.pos);
+    let behind = Cursor { pos: next, ..at };
+    match opens(token) {
+        Some(Opening::Number(n)) => leaf(start, behind, kinds::NUMBER, n, out),
+        Some(Opening::Variable(v)) => leaf(start, behind, kinds::VARIABLE, v, out),
+        Some(Opening::Negation) => negation(text, start, behind, out, deep),
+        Some(Opening::Bracket) => bracket(text, start, behind, out, deep),
+        None => Err(Expected::Expression.at(start)),
     }
 }
 
 // Behind the word not.
-#[cycle(bracket_chain_more_negation_unary)]
+#[cycle(levels)]
 fn negation(
     text: &[u8],
-    found: Lexeme,
-    len: usize,
+    start: usize,
+    at: Cursor,
     out: &mut [u64],
     deep: usize,
 ) -> Result<Cursor, NoPlan>
-    requires within { found.next ≤ length text.now }
-    requires room { len ≤ length out.old }
-    ensures forth { Onwards result found.next len (length text.now) (length out.old) }
-    ensures read { (l : Lexed) → l ≡ behind_not text.now found.next → ReadFrom result (expr_at Unary deep) l text.now (take len out.old) out.new }
+    requires within { at.pos ≤ length text.now }
+    requires room { at.len ≤ length out.old }
+    ensures forth { Onwards result at.pos at.len (length text.now) (length out.old) }
+    ensures read { (l : Lexed) → l ≡ behind_not text.now at.pos → ReadFrom result (expr_at Unary deep) l text.now (take at.len out.old) out.new }
 {
-    let c = unary(
-        text,
-        Cursor {
-            pos: found.next,
-            len,
-        },
-        out,
-        deep,
-    )?;
-    room(out, c.len, 4, found.start)?;
+    let c = unary(text, at, out, deep)?;
+    c.room(out, 4, start)?;
     unit(out, c.len, kinds::NOT, 0);
     Ok(Cursor {
-        pos: c.pos,
         len: c.len + 4,
+        ..c
     })
 }
 
 // Behind an opening bracket.
-#[cycle(bracket_chain_more_negation_unary)]
+#[cycle(levels)]
 fn bracket(
     text: &[u8],
-    found: Lexeme,
-    len: usize,
+    start: usize,
+    at: Cursor,
     out: &mut [u64],
     deep: usize,
 ) -> Result<Cursor, NoPlan>
-    requires within { found.next ≤ length text.now }
-    requires room { len ≤ length out.old }
-    ensures forth { Onwards result found.next len (length text.now) (length out.old) }
-    ensures read { (l : Lexed) → l ≡ behind_open text.now found.next → ReadFrom result (expr_at Unary deep) l text.now (take len out.old) out.new }
+    requires within { at.pos ≤ length text.now }
+    requires room { at.len ≤ length out.old }
+    ensures forth { Onwards result at.pos at.len (length text.now) (length out.old) }
+    ensures read { (l : Lexed) → l ≡ behind_open text.now at.pos → ReadFrom result (expr_at Unary deep) l text.now (take at.len out.old) out.new }
 {
     if deep == 0 {
-        return Err(Expected::Brackets.at(found.start));
+        return Err(Expected::Brackets.at(start));
     }
-    let c = chain(
-        Level::Compare,
-        text,
-        Cursor {
-            pos: found.next,
-            len,
-        },
-        out,
-        deep - 1,
-    )?;
-    let next = tokens::key(text, c.pos, Key::Close)?;
-    Ok(Cursor {
-        pos: next,
-        len: c.len,
-    })
+    let c = chain(Level::Compare, text, at, out, deep - 1)?;
+    let pos = tokens::key(text, c.pos, Key::Close)?;
+    Ok(Cursor { pos, ..c })
 }

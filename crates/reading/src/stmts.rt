@@ -8,7 +8,7 @@ ghost use Rattle.reading.specs.Levels.{Onwards};
 ghost use Rattle.reading.specs.Statements.{opened_at, other_at, if_at, while_at, guard_at, stmt_at, part_at, ReadStmt, ReadPart};
 
 use crate::error::{Expected, NoPlan};
-use crate::exprs::{Cursor, leaf, room};
+use crate::exprs::{Cursor, leaf};
 use crate::heads::{assignment, head, headed, units, with_expr};
 use crate::tasks::behind_variable;
 use crate::tokens;
@@ -52,155 +52,141 @@ fn ends(token: Token) -> bool
 }
 
 // A part in braces.
-#[cycle(fork_guarded_opened_other_part_statement_turning)]
-fn opened(text: &[u8], pos: usize, len: usize, out: &mut [u64]) -> Result<Cursor, NoPlan>
-    requires within { pos ≤ length text.now }
-    requires room { len ≤ length out.old }
-    ensures forth { Onwards result pos len (length text.now) (length out.old) }
-    ensures read { ReadPart result opened_at (ahead text.now pos) text.now (take len out.old) out.new }
+#[cycle(parts)]
+fn opened(text: &[u8], at: Cursor, out: &mut [u64]) -> Result<Cursor, NoPlan>
+    requires within { at.pos ≤ length text.now }
+    requires room { at.len ≤ length out.old }
+    ensures forth { Onwards result at.pos at.len (length text.now) (length out.old) }
+    ensures read { ReadPart result opened_at (ahead text.now at.pos) text.now (take at.len out.old) out.new }
 {
-    let first = tokens::key(text, pos, Key::Begin)?;
-    let c = part(text, Cursor { pos: first, len }, out)?;
-    let next = tokens::key(text, c.pos, Key::End)?;
-    Ok(Cursor {
-        pos: next,
-        len: c.len,
-    })
+    let first = tokens::key(text, at.pos, Key::Begin)?;
+    let c = part(text, Cursor { pos: first, ..at }, out)?;
+    let pos = tokens::key(text, c.pos, Key::End)?;
+    Ok(Cursor { pos, ..c })
 }
 
 // The word else, and a part in braces.
-#[cycle(fork_guarded_opened_other_part_statement_turning)]
-fn other(text: &[u8], pos: usize, len: usize, out: &mut [u64]) -> Result<Cursor, NoPlan>
-    requires within { pos ≤ length text.now }
-    requires room { len ≤ length out.old }
-    ensures forth { Onwards result pos len (length text.now) (length out.old) }
-    ensures read { ReadPart result other_at (ahead text.now pos) text.now (take len out.old) out.new }
+#[cycle(parts)]
+fn other(text: &[u8], at: Cursor, out: &mut [u64]) -> Result<Cursor, NoPlan>
+    requires within { at.pos ≤ length text.now }
+    requires room { at.len ≤ length out.old }
+    ensures forth { Onwards result at.pos at.len (length text.now) (length out.old) }
+    ensures read { ReadPart result other_at (ahead text.now at.pos) text.now (take at.len out.old) out.new }
 {
-    let next = tokens::key(text, pos, Key::Else)?;
-    opened(text, next, len, out)
+    let pos = tokens::key(text, at.pos, Key::Else)?;
+    opened(text, Cursor { pos, ..at }, out)
 }
 
 // Behind the word if.
-#[cycle(fork_guarded_opened_other_part_statement_turning)]
-fn fork(
-    text: &[u8],
-    start: usize,
-    pos: usize,
-    len: usize,
-    out: &mut [u64],
-) -> Result<Cursor, NoPlan>
-    requires within { pos ≤ length text.now }
-    requires room { len ≤ length out.old }
-    ensures forth { Onwards result pos len (length text.now) (length out.old) }
-    ensures read { ReadStmt result if_at (ahead text.now pos) text.now (take len out.old) out.new }
+#[cycle(parts)]
+fn fork(text: &[u8], start: usize, at: Cursor, out: &mut [u64]) -> Result<Cursor, NoPlan>
+    requires within { at.pos ≤ length text.now }
+    requires room { at.len ≤ length out.old }
+    ensures forth { Onwards result at.pos at.len (length text.now) (length out.old) }
+    ensures read { ReadStmt result if_at (ahead text.now at.pos) text.now (take at.len out.old) out.new }
 {
-    let c = headed(text, start, pos, len, out)?;
-    let first = opened(text, c.pos, c.len, out)?;
-    let last = other(text, first.pos, first.len, out)?;
+    let c = headed(text, start, at, out)?;
+    let first = opened(text, c, out)?;
+    let last = other(text, first, out)?;
     head(
         out,
-        len,
+        at.len,
         kinds::IF,
-        units(len, first.len),
-        units(len, last.len),
-        units(len + 4, c.len),
+        units(at.len, first.len),
+        units(at.len, last.len),
+        units(at.len + 4, c.len),
     );
     Ok(last)
 }
 
 // Behind the word while.
-#[cycle(fork_guarded_opened_other_part_statement_turning)]
-fn turning(
-    text: &[u8],
-    start: usize,
-    pos: usize,
-    len: usize,
-    out: &mut [u64],
-) -> Result<Cursor, NoPlan>
-    requires within { pos ≤ length text.now }
-    requires room { len ≤ length out.old }
-    ensures forth { Onwards result pos len (length text.now) (length out.old) }
-    ensures read { ReadStmt result while_at (ahead text.now pos) text.now (take len out.old) out.new }
+#[cycle(parts)]
+fn turning(text: &[u8], start: usize, at: Cursor, out: &mut [u64]) -> Result<Cursor, NoPlan>
+    requires within { at.pos ≤ length text.now }
+    requires room { at.len ≤ length out.old }
+    ensures forth { Onwards result at.pos at.len (length text.now) (length out.old) }
+    ensures read { ReadStmt result while_at (ahead text.now at.pos) text.now (take at.len out.old) out.new }
 {
-    let c = headed(text, start, pos, len, out)?;
-    let last = opened(text, c.pos, c.len, out)?;
+    let c = headed(text, start, at, out)?;
+    let last = opened(text, c, out)?;
     head(
         out,
-        len,
+        at.len,
         kinds::WHILE,
         0,
-        units(len, last.len),
-        units(len + 4, c.len),
+        units(at.len, last.len),
+        units(at.len + 4, c.len),
     );
     Ok(last)
 }
 
 // Behind the word guard.
-#[cycle(fork_guarded_opened_other_part_statement_turning)]
-fn guarded(
-    text: &[u8],
-    start: usize,
-    pos: usize,
-    len: usize,
-    out: &mut [u64],
-) -> Result<Cursor, NoPlan>
-    requires within { pos ≤ length text.now }
-    requires room { len ≤ length out.old }
-    ensures forth { Onwards result pos len (length text.now) (length out.old) }
-    ensures read { ReadStmt result guard_at (ahead text.now pos) text.now (take len out.old) out.new }
+#[cycle(parts)]
+fn guarded(text: &[u8], start: usize, at: Cursor, out: &mut [u64]) -> Result<Cursor, NoPlan>
+    requires within { at.pos ≤ length text.now }
+    requires room { at.len ≤ length out.old }
+    ensures forth { Onwards result at.pos at.len (length text.now) (length out.old) }
+    ensures read { ReadStmt result guard_at (ahead text.now at.pos) text.now (take at.len out.old) out.new }
 {
-    room(out, len, 4, start)?;
-    let first = opened(text, pos, len + 4, out)?;
-    let last = other(text, first.pos, first.len, out)?;
+    at.room(out, 4, start)?;
+    let behind = Cursor {
+        len: at.len + 4,
+        ..at
+    };
+    let first = opened(text, behind, out)?;
+    let last = other(text, first, out)?;
     head(
         out,
-        len,
+        at.len,
         kinds::GUARD,
-        units(len, first.len),
-        units(len, last.len),
+        units(at.len, first.len),
+        units(at.len, last.len),
         0,
     );
     Ok(last)
 }
 
 // Behind the word fail.
-fn failure(found: Lexeme, len: usize, out: &mut [u64]) -> Result<Cursor, NoPlan>
-    requires room { len ≤ length out.old }
-    ensures { Failure result found.next len out.old out.new }
+fn failure(start: usize, at: Cursor, out: &mut [u64]) -> Result<Cursor, NoPlan>
+    requires room { at.len ≤ length out.old }
+    ensures { Failure result at.pos at.len out.old out.new }
 {
-    room(out, len, 4, found.start)?;
-    head(out, len, kinds::FAIL, 0, 1, 0);
+    at.room(out, 4, start)?;
+    head(out, at.len, kinds::FAIL, 0, 1, 0);
     Ok(Cursor {
-        pos: found.next,
-        len: len + 4,
+        len: at.len + 4,
+        ..at
     })
 }
 
 // The statement that begins with this token.
-#[cycle(fork_guarded_opened_other_part_statement_turning)]
+#[cycle(parts)]
 fn statement(text: &[u8], found: Lexeme, len: usize, out: &mut [u64]) -> Result<Cursor, NoPlan>
     requires within { found.next ≤ length text.now }
     requires room { len ≤ length out.old }
     ensures forth { Onwards result found.next len (length text.now) (length out.old) }
     ensures read { (l : Lexed) → l ≡ both (meant text.now found) (ahead text.now found.next) → (stops found.token ≡ true → ahead text.now found.next ≡ lexemes []) → ReadStmt result stmt_at l text.now (take len out.old) out.new }
 {
-    let next = found.next;
     let start = found.start;
+    let at = Cursor {
+        pos: found.next,
+        len,
+    };
     match begins(found.token) {
-        Some(Beginning::Set) => assignment(text, start, next, len, out),
-        Some(Beginning::Sleep) => with_expr(text, start, next, len, out, kinds::SLEEP, 0),
-        Some(Beginning::If) => fork(text, start, next, len, out),
-        Some(Beginning::While) => turning(text, start, next, len, out),
-        Some(Beginning::Guard) => guarded(text, start, next, len, out),
-        Some(Beginning::Return) => with_expr(text, start, next, len, out, kinds::RETURN, 0),
-        Some(Beginning::Fail) => failure(found, len, out),
-        Some(Beginning::Variable(v)) => behind_variable(text, start, v, next, len, out),
+        Some(Beginning::Set) => assignment(text, start, at, out),
+        Some(Beginning::Sleep) => with_expr(text, start, at, out, kinds::SLEEP, 0),
+        Some(Beginning::If) => fork(text, start, at, out),
+        Some(Beginning::While) => turning(text, start, at, out),
+        Some(Beginning::Guard) => guarded(text, start, at, out),
+        Some(Beginning::Return) => with_expr(text, start, at, out, kinds::RETURN, 0),
+        Some(Beginning::Fail) => failure(start, at, out),
+        Some(Beginning::Variable(v)) => behind_variable(text, start, v, at, out),
         None => Err(Expected::Statement.at(start)),
     }
 }
 
 // Statements up to what ends a part.
-#[cycle(fork_guarded_opened_other_part_statement_turning)]
+#[cycle(parts)]
 pub fn part(text: &[u8], at: Cursor, out: &mut [u64]) -> Result<Cursor, NoPlan>
     requires within { at.pos ≤ length text.now }
     requires room { at.len ≤ length out.old }
@@ -209,12 +195,11 @@ pub fn part(text: &[u8], at: Cursor, out: &mut [u64]) -> Result<Cursor, NoPlan>
 {
     let found = token_at(text, at.pos);
     if ends(found.token) {
-        let end = Lexeme {
-            token: found.token,
-            start: found.start,
-            next: found.start,
+        let end = Cursor {
+            pos: found.start,
+            ..at
         };
-        return leaf(end, at.len, kinds::PART, 0, out);
+        return leaf(found.start, end, kinds::PART, 0, out);
     }
     let c = statement(text, found, at.len, out)?;
     part(text, c, out)

@@ -7,7 +7,7 @@ ghost use Rattle.reading.specs.Statements.{args_at, list_at, task_at, hear_at, a
 ghost use Rattle.reading.specs.Tasks.{ReadFront, ReadBack, ReadArgs, ArgsOn, ReadHeard, named};
 
 use crate::error::{Expected, NoPlan};
-use crate::exprs::{Cursor, Level, chain, room};
+use crate::exprs::{Cursor, Level, chain};
 use crate::heads::{BRACKETS, head, units};
 use crate::tokens;
 use crate::tokens::Found;
@@ -31,11 +31,10 @@ pub struct Back {
     pub next: usize,
 }
 
-// Arguments: how far the text is read, how many words are written, and how many arguments there are.
+// Arguments: how far the text is read and the draft written, and how many there are.
 #[derive(Clone, Copy, Debug, PartialEq, Eq)]
 pub struct Args {
-    pub pos: usize,
-    pub len: usize,
+    pub at: Cursor,
     pub count: u64,
 }
 
@@ -98,80 +97,68 @@ fn more_arguments(text: &[u8], at: Cursor, out: &mut [u64], count: u64) -> Resul
 {
     let found = token_at(text, at.pos);
     if found.token == Token::Key(Key::Close) {
-        return Ok(Args {
+        let at = Cursor {
             pos: found.next,
-            len: at.len,
-            count,
-        });
+            ..at
+        };
+        return Ok(Args { at, count });
     }
-    let next = tokens::key(text, at.pos, Key::Comma)?;
+    let pos = tokens::key(text, at.pos, Key::Comma)?;
     if count >= MOST_ARGUMENTS {
         return Err(Expected::Arguments.at(found.start));
     }
-    let c = chain(
-        Level::Compare,
-        text,
-        Cursor {
-            pos: next,
-            len: at.len,
-        },
-        out,
-        BRACKETS,
-    )?;
+    let c = chain(Level::Compare, text, Cursor { pos, ..at }, out, BRACKETS)?;
     more_arguments(text, c, out, count + 1)
 }
 
 // Behind the opening bracket.
-fn arguments(text: &[u8], pos: usize, len: usize, out: &mut [u64]) -> Result<Args, NoPlan>
-    requires within { pos ≤ length text.now }
-    requires room { len ≤ length out.old }
-    ensures forth { ArgsOn result pos len (length text.now) (length out.old) }
-    ensures read { ReadArgs result list_at (ahead text.now pos) text.now (take len out.old) 0 out.new }
+fn arguments(text: &[u8], at: Cursor, out: &mut [u64]) -> Result<Args, NoPlan>
+    requires within { at.pos ≤ length text.now }
+    requires room { at.len ≤ length out.old }
+    ensures forth { ArgsOn result at.pos at.len (length text.now) (length out.old) }
+    ensures read { ReadArgs result list_at (ahead text.now at.pos) text.now (take at.len out.old) 0 out.new }
 {
-    let found = token_at(text, pos);
+    let found = token_at(text, at.pos);
     if found.token == Token::Key(Key::Close) {
-        return Ok(Args {
+        let at = Cursor {
             pos: found.next,
-            len,
-            count: 0,
-        });
+            ..at
+        };
+        return Ok(Args { at, count: 0 });
     }
-    let c = chain(Level::Compare, text, Cursor { pos, len }, out, BRACKETS)?;
+    let c = chain(Level::Compare, text, at, out, BRACKETS)?;
     more_arguments(text, c, out, 1)
 }
 
 // Behind a variable and =.
-fn task(
-    text: &[u8],
-    start: usize,
-    v: u64,
-    pos: usize,
-    len: usize,
-    out: &mut [u64],
-) -> Result<Cursor, NoPlan>
-    requires within { pos ≤ length text.now }
-    requires room { len ≤ length out.old }
-    ensures forth { Onwards result pos len (length text.now) (length out.old) }
-    ensures read { ReadStmt result (task_at v) (ahead text.now pos) text.now (take len out.old) out.new }
+fn task(text: &[u8], start: usize, v: u64, at: Cursor, out: &mut [u64]) -> Result<Cursor, NoPlan>
+    requires within { at.pos ≤ length text.now }
+    requires room { at.len ≤ length out.old }
+    ensures forth { Onwards result at.pos at.len (length text.now) (length out.old) }
+    ensures read { ReadStmt result (task_at v) (ahead text.now at.pos) text.now (take at.len out.old) out.new }
 {
-    let front = task_front(text, pos)?;
-    room(out, len, 16, start)?;
-    let args = arguments(text, front.next, len + 16, out)?;
-    let back = task_back(text, args.pos)?;
-    head(out, len + 12, 0, 0, 0, 0);
-    head(out, len + 8, 0, 0, 0, 0);
+    let front = task_front(text, at.pos)?;
+    at.room(out, 16, start)?;
+    let behind = Cursor {
+        pos: front.next,
+        len: at.len + 16,
+    };
+    let args = arguments(text, behind, out)?;
+    let back = task_back(text, args.at.pos)?;
+    head(out, at.len + 12, 0, 0, 0, 0);
+    head(out, at.len + 8, 0, 0, 0, 0);
     head(
         out,
-        len + 4,
+        at.len + 4,
         front.value,
         back.tries,
         back.pause,
         args.count,
     );
-    head(out, len, kinds::DO, v, units(len, args.len), 0);
+    head(out, at.len, kinds::DO, v, units(at.len, args.at.len), 0);
     Ok(Cursor {
         pos: back.next,
-        len: args.len,
+        ..args.at
     })
 }
 
@@ -216,35 +203,28 @@ fn write_name(out: &mut [u64], at: usize, name: &[u8])
 }
 
 // Behind a variable and a comma.
-fn hear(
-    text: &[u8],
-    start: usize,
-    v: u64,
-    pos: usize,
-    len: usize,
-    out: &mut [u64],
-) -> Result<Cursor, NoPlan>
-    requires within { pos ≤ length text.now }
-    requires room { len ≤ length out.old }
-    ensures forth { Onwards result pos len (length text.now) (length out.old) }
-    ensures read { ReadStmt result (hear_at v) (ahead text.now pos) text.now (take len out.old) out.new }
+fn hear(text: &[u8], start: usize, v: u64, at: Cursor, out: &mut [u64]) -> Result<Cursor, NoPlan>
+    requires within { at.pos ≤ length text.now }
+    requires room { at.len ≤ length out.old }
+    ensures forth { Onwards result at.pos at.len (length text.now) (length out.old) }
+    ensures read { ReadStmt result (hear_at v) (ahead text.now at.pos) text.now (take at.len out.old) out.new }
 {
-    let front = hearing_front(text, v, pos)?;
-    room(out, len, 68, start)?;
-    let c = chain(
-        Level::Compare,
-        text,
-        Cursor {
-            pos: front.next,
-            len: len + 68,
-        },
+    let front = hearing_front(text, v, at.pos)?;
+    at.room(out, 68, start)?;
+    let behind = Cursor {
+        pos: front.next,
+        len: at.len + 68,
+    };
+    let c = chain(Level::Compare, text, behind, out, BRACKETS)?;
+    write_name(out, at.len + 4, &text[front.start..front.end]);
+    head(
         out,
-        BRACKETS,
-    )?;
-    let first = front.start;
-    let end = front.end;
-    write_name(out, len + 4, &text[first..end]);
-    head(out, len, kinds::HEAR, v, units(len, c.len), front.other);
+        at.len,
+        kinds::HEAR,
+        v,
+        units(at.len, c.len),
+        front.other,
+    );
     Ok(c)
 }
 
@@ -253,20 +233,19 @@ pub fn behind_variable(
     text: &[u8],
     start: usize,
     v: u64,
-    pos: usize,
-    len: usize,
+    at: Cursor,
     out: &mut [u64],
 ) -> Result<Cursor, NoPlan>
-    requires within { pos ≤ length text.now }
-    requires room { len ≤ length out.old }
-    ensures forth { Onwards result pos len (length text.now) (length out.old) }
-    ensures read { ReadStmt result (assign_at v) (ahead text.now pos) text.now (take len out.old) out.new }
+    requires within { at.pos ≤ length text.now }
+    requires room { at.len ≤ length out.old }
+    ensures forth { Onwards result at.pos at.len (length text.now) (length out.old) }
+    ensures read { ReadStmt result (assign_at v) (ahead text.now at.pos) text.now (take at.len out.old) out.new }
 {
-    if let Ok(next) = tokens::same(text, pos) {
-        return task(text, start, v, next, len, out);
+    if let Ok(pos) = tokens::same(text, at.pos) {
+        return task(text, start, v, Cursor { pos, ..at }, out);
     }
-    if let Ok(next) = tokens::key(text, pos, Key::Comma) {
-        return hear(text, start, v, next, len, out);
+    if let Ok(pos) = tokens::key(text, at.pos, Key::Comma) {
+        return hear(text, start, v, Cursor { pos, ..at }, out);
     }
-    Err(Expected::Assignment.at(token_at(text, pos).start))
+    Err(Expected::Assignment.at(token_at(text, at.pos).start))
 }

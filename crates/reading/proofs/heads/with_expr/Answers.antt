@@ -9,7 +9,7 @@ use Rattle.reading.proofs.heads.with_expr.Goals as goal
 pub returns-in_err-c : goal.returns-in_err-c
 returns-in_err-c c =
     let q = err_from_is_err_and c.from_residual.result c.from_residual.ensures.1 in
-    rw q.1 (record { forth = tt; read = λ f d s. with_bar c.args.out.now c.headed.new.out c.args.len f _ s c.requires.room c.headed.auto.out c.in_err-c.ensures.read })
+    rw q.1 (record { forth = tt; read = λ f d s. with_bar c.args.out.now c.headed.new.out c.args.at.len f _ s c.requires.room c.headed.auto.out c.in_err-c.ensures.read })
 
 pub returns : goal.returns
 returns c =
@@ -17,5 +17,5 @@ returns c =
     let r = c.in_ok-c.ensures.read in
     record {
       forth = (omega arith, f.1, omega arith, f.3);
-      read = λ g d s. record { item = g r.tree; took = step_took whole_expr (λ e n i us. got (g e) us) r.tree (g r.tree) r.took (end_took (g r.tree) _); words = subst (λ (l : List ℕ). take c.in_ok-c.c.len l ≡ take c.args.len c.args.out.now ++ draft_stmt (g r.tree)) (sym c.head.ensures) (with_words c.args.out.now c.headed.new.out c.args.len c.in_ok-c.c.len c.args.kind c.args.second c.units.result g r.tree (d r.tree) r.words f.2 f.3 c.headed.auto.out c.units.ensures) };
+      read = λ g d s. record { item = g r.tree; took = step_took whole_expr (λ e n i us. got (g e) us) r.tree (g r.tree) r.took (end_took (g r.tree) _); words = subst (λ (l : List ℕ). take c.in_ok-c.c.len l ≡ take c.args.at.len c.args.out.now ++ draft_stmt (g r.tree)) (sym c.head.ensures) (with_words c.args.out.now c.headed.new.out c.args.at.len c.in_ok-c.c.len c.args.kind c.args.second c.units.result g r.tree (d r.tree) r.words f.2 f.3 c.headed.auto.out c.units.ensures) };
     }

@@ -21,10 +21,10 @@ returns-then-eq ring c =
       read = record { items = []; took = args_close _ _ a; words = no_args_words c.args.out.now c.args.at.len; counted = omega arith; few = c.requires.few };
     }
 
-pub returns-in_err-next : goal.returns-in_err-next
-returns-in_err-next ring c =
+pub returns-in_err-pos : goal.returns-in_err-pos
+returns-in_err-pos ring c =
     let q = err_from_is_err_and c.from_residual.result c.from_residual.ensures.1 in
-    rw q.1 (record { forth = tt; read = args_bar_comma _ (still_open c.token_at-found.result.token (take (c.token_at-found.result.next - c.token_at-found.result.start) (drop c.token_at-found.result.start c.args.text.now)) (ahead c.args.text.now c.args.at.pos) (ahead c.args.text.now c.token_at-found.result.next) c.token_at-found.ensures.ahead (stop_end c.args.text.now c.args.at.pos c.token_at-found.result c.token_at-found.ensures.forth) (λ e. search rules)) c.in_err-next.ensures })
+    rw q.1 (record { forth = tt; read = args_bar_comma _ (still_open c.token_at-found.result.token (take (c.token_at-found.result.next - c.token_at-found.result.start) (drop c.token_at-found.result.start c.args.text.now)) (ahead c.args.text.now c.args.at.pos) (ahead c.args.text.now c.token_at-found.result.next) c.token_at-found.ensures.ahead (stop_end c.args.text.now c.args.at.pos c.token_at-found.result c.token_at-found.ensures.forth) (λ e. search rules)) c.in_err-pos.ensures })
 
 pub returns-then-count-ge-MOST_ARGUMENTS : goal.returns-then-count-ge-MOST_ARGUMENTS
 returns-then-count-ge-MOST_ARGUMENTS ring c = record { forth = tt; read = args_bar_many _ _ c.args.count _ (still_open c.token_at-found.result.token (take (c.token_at-found.result.next - c.token_at-found.result.start) (drop c.token_at-found.result.start c.args.text.now)) (ahead c.args.text.now c.args.at.pos) (ahead c.args.text.now c.token_at-found.result.next) c.token_at-found.ensures.ahead (stop_end c.args.text.now c.args.at.pos c.token_at-found.result c.token_at-found.ensures.forth) (λ e. search rules)) c.if-count-ge-MOST_ARGUMENTS.true }
@@ -32,13 +32,13 @@ returns-then-count-ge-MOST_ARGUMENTS ring c = record { forth = tt; read = args_b
 pub returns-in_err-c : goal.returns-in_err-c
 returns-in_err-c ring c =
     let q = err_from_is_err_and c.from_residual-in_err-c.result c.from_residual-in_err-c.ensures.1 in
-    rw q.1 (record { forth = tt; read = args_bar_expr (length c.chain.new.out) (length (take c.args.at.len c.args.out.now)) c.args.count (still_open c.token_at-found.result.token (take (c.token_at-found.result.next - c.token_at-found.result.start) (drop c.token_at-found.result.start c.args.text.now)) (ahead c.args.text.now c.args.at.pos) (ahead c.args.text.now c.token_at-found.result.next) c.token_at-found.ensures.ahead (stop_end c.args.text.now c.args.at.pos c.token_at-found.result c.token_at-found.ensures.forth) (λ e. search rules)) c.in_ok-next.ensures.0 (whole_read (Err c.in_err-c.field-0.0) c.args.text.now c.in_ok-next.next (take c.args.at.len c.args.out.now) c.chain.new.out c.in_err-c.ensures.read) })
+    rw q.1 (record { forth = tt; read = args_bar_expr (length c.chain.new.out) (length (take c.args.at.len c.args.out.now)) c.args.count (still_open c.token_at-found.result.token (take (c.token_at-found.result.next - c.token_at-found.result.start) (drop c.token_at-found.result.start c.args.text.now)) (ahead c.args.text.now c.args.at.pos) (ahead c.args.text.now c.token_at-found.result.next) c.token_at-found.ensures.ahead (stop_end c.args.text.now c.args.at.pos c.token_at-found.result c.token_at-found.ensures.forth) (λ e. search rules)) c.in_ok-pos.ensures.0 (whole_read (Err c.in_err-c.field-0.0) c.args.text.now c.in_ok-pos.pos (take c.args.at.len c.args.out.now) c.chain.new.out c.in_err-c.ensures.read) })
 
 pub returns : goal.returns
 returns ring c =
     let f = c.in_ok-c.ensures.forth in
-    let w = whole_read (Ok c.in_ok-c.c) c.args.text.now c.in_ok-next.next (take c.args.at.len c.args.out.now) c.chain.new.out c.in_ok-c.ensures.read in
-    let n = c.in_ok-next.ensures in
+    let w = whole_read (Ok c.in_ok-c.c) c.args.text.now c.in_ok-pos.pos (take c.args.at.len c.args.out.now) c.chain.new.out c.in_ok-c.ensures.read in
+    let n = c.in_ok-pos.ensures in
     record {
       forth = args_on c.more_arguments.result _ _ c.args.at.pos c.args.at.len _ _ (length c.args.out.now) (omega (arith, n.1, f.0)) f.2 c.chain.auto.out c.more_arguments.ensures.forth;
       read = args_read c.more_arguments.result args_at args_at w.tree _ _ c.args.text.now c.args.out.now c.chain.new.out c.more_arguments.new.out c.args.at.len c.in_ok-c.c.len c.args.count c.requires.room (omega (arith, f.3, c.chain.auto.out)) c.chain.auto.out c.more_arguments.auto.out w.words

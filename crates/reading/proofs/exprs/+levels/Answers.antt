@@ -13,30 +13,30 @@ use Rattle.text.specs.Kinds.{kind_of}
 use Rattle.reading.specs.Levels.{expr_at, more_at, NoRoom, build}
 use Rattle.reading.proofs.Taking.{stop_end, onward}
 use Rattle.reading.proofs.Leveled.{more_none, joined, more_bar_right, more_bar_here, build_size, number_took, variable_took, not_took, not_bar, not_bar_here, bracket_took, bracket_bar_inside, bracket_bar_close, bracket_bar_deep, nothing_bar, words_long, lit_code, var_code, not_words, pair_words, chain_bar_first, suc_pred, further_on, chain_read, none_of, op_ahead, more_read, units_are, not_size, opens_n, opens_v, leaf_read}
-use Rattle.reading.proofs.exprs.+bracket_chain_more_negation_unary.Goals as goal
+use Rattle.reading.proofs.exprs.+levels.Goals as goal
 
 pub bracket-returns-then-deep-eq0 : goal.bracket-returns-then-deep-eq0
-bracket-returns-then-deep-eq0 ring c = record { forth = tt; read = λ l h. subst (λ (d : ℕ). Bars (expr_at Unary d) (NoRoom (length c.args.out.now) (length (take c.args.len c.args.out.now))) l) (sym c.if-deep-eq0.true) (bracket_bar_deep _ l _ h) }
+bracket-returns-then-deep-eq0 ring c = record { forth = tt; read = λ l h. subst (λ (d : ℕ). Bars (expr_at Unary d) (NoRoom (length c.args.out.now) (length (take c.args.at.len c.args.out.now))) l) (sym c.if-deep-eq0.true) (bracket_bar_deep _ l _ h) }
 
 pub bracket-returns-in_err-c : goal.bracket-returns-in_err-c
 bracket-returns-in_err-c ring c =
     let q = err_from_is_err_and c.from_residual.result c.from_residual.ensures.1 in
-    rw q.1 (record { forth = tt; read = λ l h. subst (λ (d : ℕ). Bars (expr_at Unary d) (NoRoom (length c.chain.new.out) (length (take c.args.len c.args.out.now))) l) (suc_pred c.args.deep c.if-deep-eq0.false) (bracket_bar_inside (c.args.deep - 1) _ h c.in_err-c.ensures.read) })
+    rw q.1 (record { forth = tt; read = λ l h. subst (λ (d : ℕ). Bars (expr_at Unary d) (NoRoom (length c.chain.new.out) (length (take c.args.at.len c.args.out.now))) l) (suc_pred c.args.deep c.if-deep-eq0.false) (bracket_bar_inside (c.args.deep - 1) _ h c.in_err-c.ensures.read) })
 
-pub bracket-returns-in_err-next : goal.bracket-returns-in_err-next
-bracket-returns-in_err-next ring c =
-    let q = err_from_is_err_and c.from_residual-in_err-next.result c.from_residual-in_err-next.ensures.1 in
+pub bracket-returns-in_err-pos : goal.bracket-returns-in_err-pos
+bracket-returns-in_err-pos ring c =
+    let q = err_from_is_err_and c.from_residual-in_err-pos.result c.from_residual-in_err-pos.ensures.1 in
     let r = c.in_ok-c.ensures.read in
-    rw q.1 (record { forth = tt; read = λ l h. subst (λ (d : ℕ). Bars (expr_at Unary d) (NoRoom (length c.chain.new.out) (length (take c.args.len c.args.out.now))) l) (suc_pred c.args.deep c.if-deep-eq0.false) (bracket_bar_close (c.args.deep - 1) r.tree _ h r.took c.in_err-next.ensures) })
+    rw q.1 (record { forth = tt; read = λ l h. subst (λ (d : ℕ). Bars (expr_at Unary d) (NoRoom (length c.chain.new.out) (length (take c.args.at.len c.args.out.now))) l) (suc_pred c.args.deep c.if-deep-eq0.false) (bracket_bar_close (c.args.deep - 1) r.tree _ h r.took c.in_err-pos.ensures) })
 
 pub bracket-returns : goal.bracket-returns
 bracket-returns ring c =
     let f = c.in_ok-c.ensures.forth in
     let r = c.in_ok-c.ensures.read in
-    let k = c.in_ok-next.ensures in
+    let k = c.in_ok-pos.ensures in
     record {
       forth = (omega arith, omega (arith, k.1), omega arith, omega arith);
-      read = λ l h. record { tree = r.tree; took = subst (λ (d : ℕ). Took (expr_at Unary d) r.tree l (ahead c.args.text.now c.in_ok-next.next)) (suc_pred c.args.deep c.if-deep-eq0.false) (bracket_took (c.args.deep - 1) r.tree h r.took k.0); words = r.words };
+      read = λ l h. record { tree = r.tree; took = subst (λ (d : ℕ). Took (expr_at Unary d) r.tree l (ahead c.args.text.now c.in_ok-pos.pos)) (suc_pred c.args.deep c.if-deep-eq0.false) (bracket_took (c.args.deep - 1) r.tree h r.took k.0); words = r.words };
     }
 
 pub chain-returns-in_err-c : goal.chain-returns-in_err-c
@@ -111,7 +111,7 @@ more-returns ring c =
 pub negation-returns-in_err-c : goal.negation-returns-in_err-c
 negation-returns-in_err-c ring c =
     let q = err_from_is_err_and c.from_residual.result c.from_residual.ensures.1 in
-    rw q.1 (record { forth = tt; read = λ l h. not_bar c.args.deep (length c.unary.new.out) (length (take c.args.len c.args.out.now)) h c.in_err-c.ensures.read })
+    rw q.1 (record { forth = tt; read = λ l h. not_bar c.args.deep (length c.unary.new.out) (length (take c.args.at.len c.args.out.now)) h c.in_err-c.ensures.read })
 
 pub negation-returns-in_err-room : goal.negation-returns-in_err-room
 negation-returns-in_err-room ring c =
@@ -121,9 +121,9 @@ negation-returns-in_err-room ring c =
     rw q.1 (record {
       forth = tt;
       read = λ l h.
-          let lb = words_long c.unary.new.out (take c.args.len c.args.out.now) r.tree c.in_ok-c.c.len r.words (omega (arith, f.3, c.unary.auto.out)) in
+          let lb = words_long c.unary.new.out (take c.args.at.len c.args.out.now) r.tree c.in_ok-c.c.len r.words (omega (arith, f.3, c.unary.auto.out)) in
           let bs = not_size r.tree in
-          not_bar_here c.args.deep (length c.unary.new.out) (length (take c.args.len c.args.out.now)) r.tree h r.took (omega (arith, c.in_err-room.ensures));
+          not_bar_here c.args.deep (length c.unary.new.out) (length (take c.args.at.len c.args.out.now)) r.tree h r.took (omega (arith, c.in_err-room.ensures));
     })
 
 pub negation-returns : goal.negation-returns
@@ -132,24 +132,24 @@ negation-returns ring c =
     let r = c.in_ok-c.ensures.read in
     record {
       forth = (omega arith, omega arith, omega arith, omega (arith, f.3, c.unary.auto.out));
-      read = λ l h. record { tree = Not r.tree; took = not_took c.args.deep r.tree h r.took; words = not_words c.unit.new.out c.unary.new.out (take c.args.len c.args.out.now) r.tree c.in_ok-c.c.len r.words c.unit.ensures };
+      read = λ l h. record { tree = Not r.tree; took = not_took c.args.deep r.tree h r.took; words = not_words c.unit.new.out c.unary.new.out (take c.args.at.len c.args.out.now) r.tree c.in_ok-c.c.len r.words c.unit.ensures };
     }
 
 pub unary-returns-in-Some-Number : goal.unary-returns-in-Some-Number
 unary-returns-in-Some-Number ring c =
-    let ft = c.token_at-found.ensures.forth in
-    let t = opens_n c.token_at-found.result.token c.in-Some-Number.n (search rules) in
-    let a = c.token_at-found.ensures.ahead ∙ ap (λ (x : Token). both (means x (take (c.token_at-found.result.next - c.token_at-found.result.start) (drop c.token_at-found.result.start c.args.text.now))) (ahead c.args.text.now c.token_at-found.result.next)) t in
-    let o = onward c.args.at.pos c.token_at-found.result (length c.args.text.now) ft c.requires.within (ap taken t) in
-    leaf_read (expr_at Unary c.args.deep) (Lit c.in-Some-Number.n) _ c.in-Some-Number.n c.args.text.now c.args.at c.token_at-found.result.next c.args.out.now c.leaf.new.out c.leaf.result c.leaf.auto.out (number_took c.args.deep c.in-Some-Number.n _ _ a) (lit_code c.in-Some-Number.n) c.requires.room o.0 o.1 c.leaf.ensures
+    let ft = c.token_at-token.ensures.forth in
+    let t = opens_n c.token_at-token.result.token c.in-Some-Number.n (search rules) in
+    let a = c.token_at-token.ensures.ahead ∙ ap (λ (x : Token). both (means x (take (c.token_at-token.result.next - c.token_at-token.result.start) (drop c.token_at-token.result.start c.args.text.now))) (ahead c.args.text.now c.token_at-token.result.next)) t in
+    let o = onward c.args.at.pos c.token_at-token.result (length c.args.text.now) ft c.requires.within (ap taken t) in
+    leaf_read (expr_at Unary c.args.deep) (Lit c.in-Some-Number.n) _ c.in-Some-Number.n c.args.text.now c.args.at c.token_at-token.result.next c.args.out.now c.leaf.new.out c.leaf.result c.leaf.auto.out (number_took c.args.deep c.in-Some-Number.n _ _ a) (lit_code c.in-Some-Number.n) c.requires.room o.0 o.1 c.leaf.ensures
 
 pub unary-returns-in-Some-Variable : goal.unary-returns-in-Some-Variable
 unary-returns-in-Some-Variable ring c =
-    let ft = c.token_at-found.ensures.forth in
-    let t = opens_v c.token_at-found.result.token c.in-Some-Variable.v (search rules) in
-    let a = c.token_at-found.ensures.ahead ∙ ap (λ (x : Token). both (means x (take (c.token_at-found.result.next - c.token_at-found.result.start) (drop c.token_at-found.result.start c.args.text.now))) (ahead c.args.text.now c.token_at-found.result.next)) t in
-    let o = onward c.args.at.pos c.token_at-found.result (length c.args.text.now) ft c.requires.within (ap taken t) in
-    leaf_read (expr_at Unary c.args.deep) (Var c.in-Some-Variable.v) _ c.in-Some-Variable.v c.args.text.now c.args.at c.token_at-found.result.next c.args.out.now c.leaf-in-Some-Variable.new.out c.leaf-in-Some-Variable.result c.leaf-in-Some-Variable.auto.out (variable_took c.args.deep c.in-Some-Variable.v _ _ a) (var_code c.in-Some-Variable.v) c.requires.room o.0 o.1 c.leaf-in-Some-Variable.ensures
+    let ft = c.token_at-token.ensures.forth in
+    let t = opens_v c.token_at-token.result.token c.in-Some-Variable.v (search rules) in
+    let a = c.token_at-token.ensures.ahead ∙ ap (λ (x : Token). both (means x (take (c.token_at-token.result.next - c.token_at-token.result.start) (drop c.token_at-token.result.start c.args.text.now))) (ahead c.args.text.now c.token_at-token.result.next)) t in
+    let o = onward c.args.at.pos c.token_at-token.result (length c.args.text.now) ft c.requires.within (ap taken t) in
+    leaf_read (expr_at Unary c.args.deep) (Var c.in-Some-Variable.v) _ c.in-Some-Variable.v c.args.text.now c.args.at c.token_at-token.result.next c.args.out.now c.leaf-in-Some-Variable.new.out c.leaf-in-Some-Variable.result c.leaf-in-Some-Variable.auto.out (variable_took c.args.deep c.in-Some-Variable.v _ _ a) (var_code c.in-Some-Variable.v) c.requires.room o.0 o.1 c.leaf-in-Some-Variable.ensures
 
 pub unary-returns-in-None : goal.unary-returns-in-None
-unary-returns-in-None ring c = record { forth = tt; read = nothing_bar c.args.deep _ c.token_at-found.result.token _ _ _ c.token_at-found.ensures.ahead (stop_end c.args.text.now c.args.at.pos c.token_at-found.result c.token_at-found.ensures.forth) (sym c.opens.ensures ∙ c.in-None.is) }
+unary-returns-in-None ring c = record { forth = tt; read = nothing_bar c.args.deep _ c.token_at-token.result.token _ _ _ c.token_at-token.ensures.ahead (stop_end c.args.text.now c.args.at.pos c.token_at-token.result c.token_at-token.ensures.forth) (sym c.opens.ensures ∙ c.in-None.is) }

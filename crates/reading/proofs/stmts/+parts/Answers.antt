@@ -11,7 +11,7 @@ use Rattle.reading.proofs.Taking.{stop_end}
 use Rattle.reading.proofs.Steps.{step_refused, onwards_more}
 use Rattle.reading.specs.declared.stmts.Beginning.TheVariants as begin
 use Rattle.reading.proofs.Stated.{opened_bar, opened_open, opened_took, other_read, if_bar_condition, if_bar_first, if_bar_other, while_bar_condition, while_bar_body, guard_bar_first, guard_bar_other, if_took, while_took, guard_took, if_words, while_words, guard_words, no_room_part, long, by_key_lem, by_variable, no_statement, begins_is, at_token, set_is, sleep_is, if_is, while_is, guard_is, return_is, fail_is, part_end, going, part_bar_first, sleep_draft, sleep_size, return_draft, return_size, fail_at, failure_onwards, failure_read, end_read, part_read, not_stop}
-use Rattle.reading.proofs.stmts.+fork_guarded_opened_other_part_statement_turning.Goals as goal
+use Rattle.reading.proofs.stmts.+parts.Goals as goal
 
 pub opened-returns-in_err-first : goal.opened-returns-in_err-first
 opened-returns-in_err-first ring c =
@@ -23,78 +23,78 @@ opened-returns-in_err-c ring c =
     let q = err_from_is_err_and c.from_residual-in_err-c.result c.from_residual-in_err-c.ensures.1 in
     rw q.1 (record { forth = tt; read = opened_bar _ c.in_ok-first.ensures.0 c.in_err-c.ensures.read })
 
-pub opened-returns-in_err-next : goal.opened-returns-in_err-next
-opened-returns-in_err-next ring c =
-    let q = err_from_is_err_and c.from_residual-in_err-next.result c.from_residual-in_err-next.ensures.1 in
-    rw q.1 (record { forth = tt; read = opened_open c.in_ok-c.ensures.read.item _ c.in_ok-first.ensures.0 c.in_ok-c.ensures.read.took c.in_err-next.ensures })
+pub opened-returns-in_err-pos : goal.opened-returns-in_err-pos
+opened-returns-in_err-pos ring c =
+    let q = err_from_is_err_and c.from_residual-in_err-pos.result c.from_residual-in_err-pos.ensures.1 in
+    rw q.1 (record { forth = tt; read = opened_open c.in_ok-c.ensures.read.item _ c.in_ok-first.ensures.0 c.in_ok-c.ensures.read.took c.in_err-pos.ensures })
 
 pub opened-returns : goal.opened-returns
 opened-returns ring c =
     let f = c.in_ok-c.ensures.forth in
     let r = c.in_ok-c.ensures.read in
     let a = c.in_ok-first.ensures in
-    let k = c.in_ok-next.ensures in
+    let k = c.in_ok-pos.ensures in
     record {
       forth = (omega (arith, a.1, k.1, f.0), k.1.1, f.2, f.3);
       read = record { item = r.item; took = opened_took r.item a.0 r.took k.0; words = r.words };
     }
 
-pub other-returns-in_err-next : goal.other-returns-in_err-next
-other-returns-in_err-next ring c =
+pub other-returns-in_err-pos : goal.other-returns-in_err-pos
+other-returns-in_err-pos ring c =
     let q = err_from_is_err_and c.from_residual.result c.from_residual.ensures.1 in
-    rw q.1 (record { forth = tt; read = step_refused (one_key ELSE) (λ z. opened_at) _ c.in_err-next.ensures })
+    rw q.1 (record { forth = tt; read = step_refused (one_key ELSE) (λ z. opened_at) _ c.in_err-pos.ensures })
 
 pub other-returns : goal.other-returns
 other-returns ring c =
-    let a = c.in_ok-next.ensures in
+    let a = c.in_ok-pos.ensures in
     record {
-      forth = onwards_more c.opened.result _ _ c.args.pos c.args.len _ _ (omega (arith, a.1)) (le_refl _) c.opened.ensures.forth;
-      read = other_read c.opened.result _ _ c.args.text.now (take c.args.len c.args.out.now) c.opened.new.out a.0 c.opened.ensures.read;
+      forth = onwards_more c.opened.result _ _ c.args.at.pos c.args.at.len _ _ (omega (arith, a.1)) (le_refl _) c.opened.ensures.forth;
+      read = other_read c.opened.result _ _ c.args.text.now (take c.args.at.len c.args.out.now) c.opened.new.out a.0 c.opened.ensures.read;
     }
 
 pub fork-returns-in_err-c : goal.fork-returns-in_err-c
 fork-returns-in_err-c ring c =
     let q = err_from_is_err_and c.from_residual.result c.from_residual.ensures.1 in
-    rw q.1 (record { forth = tt; read = if_bar_condition c.args.out.now c.args.len (length c.headed.new.out) _ c.requires.room c.in_err-c.ensures.read })
+    rw q.1 (record { forth = tt; read = if_bar_condition c.args.out.now c.args.at.len (length c.headed.new.out) _ c.requires.room c.in_err-c.ensures.read })
 
 pub turning-returns-in_err-c : goal.turning-returns-in_err-c
 turning-returns-in_err-c ring c =
     let q = err_from_is_err_and c.from_residual.result c.from_residual.ensures.1 in
-    rw q.1 (record { forth = tt; read = while_bar_condition c.args.out.now c.args.len (length c.headed.new.out) _ c.requires.room c.in_err-c.ensures.read })
+    rw q.1 (record { forth = tt; read = while_bar_condition c.args.out.now c.args.at.len (length c.headed.new.out) _ c.requires.room c.in_err-c.ensures.read })
 
 pub fork-returns-in_err-first : goal.fork-returns-in_err-first
 fork-returns-in_err-first ring c =
     let q = err_from_is_err_and c.from_residual-in_err-first.result c.from_residual-in_err-first.ensures.1 in
     let f = c.in_ok-c.ensures.forth in
     let r = c.in_ok-c.ensures.read in
-    let t0 = length-take-le (c.args.len + 4) c.args.out.now (omega (arith, f.2, f.3)) in
-    let k1 = long code_of expr_size code_length c.headed.new.out (take (c.args.len + 4) c.args.out.now) r.tree c.in_ok-c.c.len r.words (omega (arith, f.3, c.headed.auto.out)) in
+    let t0 = length-take-le (c.args.at.len + 4) c.args.out.now (omega (arith, f.2, f.3)) in
+    let k1 = long code_of expr_size code_length c.headed.new.out (take (c.args.at.len + 4) c.args.out.now) r.tree c.in_ok-c.c.len r.words (omega (arith, f.3, c.headed.auto.out)) in
     let t1 = length-take-le c.in_ok-c.c.len c.headed.new.out (omega (arith, f.3, c.headed.auto.out)) in
-    rw q.1 (record { forth = tt; read = if_bar_first c.args.out.now c.args.len (length c.opened.new.out) _ c.requires.room r.tree (length (take c.in_ok-c.c.len c.headed.new.out)) (omega arith) r.took c.in_err-first.ensures.read })
+    rw q.1 (record { forth = tt; read = if_bar_first c.args.out.now c.args.at.len (length c.opened.new.out) _ c.requires.room r.tree (length (take c.in_ok-c.c.len c.headed.new.out)) (omega arith) r.took c.in_err-first.ensures.read })
 
 pub turning-returns-in_err-last : goal.turning-returns-in_err-last
 turning-returns-in_err-last ring c =
     let q = err_from_is_err_and c.from_residual-in_err-last.result c.from_residual-in_err-last.ensures.1 in
     let f = c.in_ok-c.ensures.forth in
     let r = c.in_ok-c.ensures.read in
-    let t0 = length-take-le (c.args.len + 4) c.args.out.now (omega (arith, f.2, f.3)) in
-    let k1 = long code_of expr_size code_length c.headed.new.out (take (c.args.len + 4) c.args.out.now) r.tree c.in_ok-c.c.len r.words (omega (arith, f.3, c.headed.auto.out)) in
+    let t0 = length-take-le (c.args.at.len + 4) c.args.out.now (omega (arith, f.2, f.3)) in
+    let k1 = long code_of expr_size code_length c.headed.new.out (take (c.args.at.len + 4) c.args.out.now) r.tree c.in_ok-c.c.len r.words (omega (arith, f.3, c.headed.auto.out)) in
     let t1 = length-take-le c.in_ok-c.c.len c.headed.new.out (omega (arith, f.3, c.headed.auto.out)) in
-    rw q.1 (record { forth = tt; read = while_bar_body c.args.out.now c.args.len (length c.opened.new.out) _ c.requires.room r.tree (length (take c.in_ok-c.c.len c.headed.new.out)) (omega arith) r.took c.in_err-last.ensures.read })
+    rw q.1 (record { forth = tt; read = while_bar_body c.args.out.now c.args.at.len (length c.opened.new.out) _ c.requires.room r.tree (length (take c.in_ok-c.c.len c.headed.new.out)) (omega arith) r.took c.in_err-last.ensures.read })
 
 pub fork-returns-in_err-last : goal.fork-returns-in_err-last
 fork-returns-in_err-last ring c =
     let q = err_from_is_err_and c.from_residual-in_err-last.result c.from_residual-in_err-last.ensures.1 in
     let f = c.in_ok-c.ensures.forth in
     let r = c.in_ok-c.ensures.read in
-    let t0 = length-take-le (c.args.len + 4) c.args.out.now (omega (arith, f.2, f.3)) in
-    let k1 = long code_of expr_size code_length c.headed.new.out (take (c.args.len + 4) c.args.out.now) r.tree c.in_ok-c.c.len r.words (omega (arith, f.3, c.headed.auto.out)) in
+    let t0 = length-take-le (c.args.at.len + 4) c.args.out.now (omega (arith, f.2, f.3)) in
+    let k1 = long code_of expr_size code_length c.headed.new.out (take (c.args.at.len + 4) c.args.out.now) r.tree c.in_ok-c.c.len r.words (omega (arith, f.3, c.headed.auto.out)) in
     let t1 = length-take-le c.in_ok-c.c.len c.headed.new.out (omega (arith, f.3, c.headed.auto.out)) in
     let fa = c.in_ok-first.ensures.forth in
     let ra = c.in_ok-first.ensures.read in
     let k2 = long draft_of size_of draft_length c.opened.new.out (take c.in_ok-c.c.len c.headed.new.out) ra.item c.in_ok-first.first.len ra.words (omega (arith, fa.3, c.opened.auto.out)) in
     let t2 = length-take-le c.in_ok-first.first.len c.opened.new.out (omega (arith, fa.3, c.opened.auto.out)) in
-    rw q.1 (record { forth = tt; read = if_bar_other c.args.out.now c.args.len (length c.other.new.out) _ c.requires.room r.tree ra.item (length (take c.in_ok-first.first.len c.opened.new.out)) (omega arith) r.took ra.took c.in_err-last.ensures.read })
+    rw q.1 (record { forth = tt; read = if_bar_other c.args.out.now c.args.at.len (length c.other.new.out) _ c.requires.room r.tree ra.item (length (take c.in_ok-first.first.len c.opened.new.out)) (omega arith) r.took ra.took c.in_err-last.ensures.read })
 
 pub fork-returns : goal.fork-returns
 fork-returns ring c =
@@ -112,8 +112,8 @@ fork-returns ring c =
       read = record {
         item = If r.tree ra.item rb.item;
         took = if_took r.tree ra.item rb.item r.took ra.took rb.took;
-        words = subst (λ (y : List ℕ). take c.in_ok-last.last.len y ≡ take c.args.len c.args.out.now ++ draft_stmt (If r.tree ra.item rb.item)) (sym c.head.ensures)
-            (if_words c.args.out.now c.headed.new.out c.opened.new.out c.other.new.out c.args.len c.in_ok-c.c.len c.in_ok-first.first.len c.in_ok-last.last.len _ _ _ r.tree ra.item rb.item r.words ra.words rb.words (omega arith) (omega arith) (omega arith) (omega (arith, fb.3)) s1 s2 s3 c.units.ensures c.units-2.ensures c.units-3.ensures);
+        words = subst (λ (y : List ℕ). take c.in_ok-last.last.len y ≡ take c.args.at.len c.args.out.now ++ draft_stmt (If r.tree ra.item rb.item)) (sym c.head.ensures)
+            (if_words c.args.out.now c.headed.new.out c.opened.new.out c.other.new.out c.args.at.len c.in_ok-c.c.len c.in_ok-first.first.len c.in_ok-last.last.len _ _ _ r.tree ra.item rb.item r.words ra.words rb.words (omega arith) (omega arith) (omega arith) (omega (arith, fb.3)) s1 s2 s3 c.units.ensures c.units-2.ensures c.units-3.ensures);
       };
     }
 
@@ -130,31 +130,31 @@ turning-returns ring c =
       read = record {
         item = While r.tree ra.item;
         took = while_took r.tree ra.item r.took ra.took;
-        words = subst (λ (y : List ℕ). take c.in_ok-last.last.len y ≡ take c.args.len c.args.out.now ++ draft_stmt (While r.tree ra.item)) (sym c.head.ensures)
-            (while_words c.args.out.now c.headed.new.out c.opened.new.out c.args.len c.in_ok-c.c.len c.in_ok-last.last.len _ _ r.tree ra.item r.words ra.words (omega arith) (omega arith) (omega (arith, fa.3)) s1 s2 c.units.ensures c.units-2.ensures);
+        words = subst (λ (y : List ℕ). take c.in_ok-last.last.len y ≡ take c.args.at.len c.args.out.now ++ draft_stmt (While r.tree ra.item)) (sym c.head.ensures)
+            (while_words c.args.out.now c.headed.new.out c.opened.new.out c.args.at.len c.in_ok-c.c.len c.in_ok-last.last.len _ _ r.tree ra.item r.words ra.words (omega arith) (omega arith) (omega (arith, fa.3)) s1 s2 c.units.ensures c.units-2.ensures);
       };
     }
 
 pub guarded-returns-in_err-room : goal.guarded-returns-in_err-room
 guarded-returns-in_err-room ring c =
     let q = err_from_is_err_and c.from_residual.result c.from_residual.ensures.1 in
-    rw q.1 (record { forth = tt; read = guard_bar_first c.args.out.now c.args.len (length c.args.out.now) _ c.requires.room (c.args.len + 4) refl (no_room_part opened_at _ _ _ (omega (arith, c.in_err-room.ensures))) })
+    rw q.1 (record { forth = tt; read = guard_bar_first c.args.out.now c.args.at.len (length c.args.out.now) _ c.requires.room (c.args.at.len + 4) refl (no_room_part opened_at _ _ _ (omega (arith, c.in_err-room.ensures))) })
 
 pub guarded-returns-in_err-first : goal.guarded-returns-in_err-first
 guarded-returns-in_err-first ring c =
     let q = err_from_is_err_and c.from_residual-in_err-first.result c.from_residual-in_err-first.ensures.1 in
-    let t0 = length-take-le (c.args.len + 4) c.args.out.now (omega arith) in
-    rw q.1 (record { forth = tt; read = guard_bar_first c.args.out.now c.args.len (length c.opened.new.out) _ c.requires.room (length (take (c.args.len + 4) c.args.out.now)) t0 c.in_err-first.ensures.read })
+    let t0 = length-take-le (c.args.at.len + 4) c.args.out.now (omega arith) in
+    rw q.1 (record { forth = tt; read = guard_bar_first c.args.out.now c.args.at.len (length c.opened.new.out) _ c.requires.room (length (take (c.args.at.len + 4) c.args.out.now)) t0 c.in_err-first.ensures.read })
 
 pub guarded-returns-in_err-last : goal.guarded-returns-in_err-last
 guarded-returns-in_err-last ring c =
     let q = err_from_is_err_and c.from_residual-in_err-last.result c.from_residual-in_err-last.ensures.1 in
     let fa = c.in_ok-first.ensures.forth in
     let ra = c.in_ok-first.ensures.read in
-    let t0 = length-take-le (c.args.len + 4) c.args.out.now (omega arith) in
-    let k2 = long draft_of size_of draft_length c.opened.new.out (take (c.args.len + 4) c.args.out.now) ra.item c.in_ok-first.first.len ra.words (omega (arith, fa.3, c.opened.auto.out)) in
+    let t0 = length-take-le (c.args.at.len + 4) c.args.out.now (omega arith) in
+    let k2 = long draft_of size_of draft_length c.opened.new.out (take (c.args.at.len + 4) c.args.out.now) ra.item c.in_ok-first.first.len ra.words (omega (arith, fa.3, c.opened.auto.out)) in
     let t2 = length-take-le c.in_ok-first.first.len c.opened.new.out (omega (arith, fa.3, c.opened.auto.out)) in
-    rw q.1 (record { forth = tt; read = guard_bar_other c.args.out.now c.args.len (length c.other.new.out) _ c.requires.room ra.item (length (take c.in_ok-first.first.len c.opened.new.out)) (omega arith) ra.took c.in_err-last.ensures.read })
+    rw q.1 (record { forth = tt; read = guard_bar_other c.args.out.now c.args.at.len (length c.other.new.out) _ c.requires.room ra.item (length (take c.in_ok-first.first.len c.opened.new.out)) (omega arith) ra.took c.in_err-last.ensures.read })
 
 pub guarded-returns : goal.guarded-returns
 guarded-returns ring c =
@@ -169,8 +169,8 @@ guarded-returns ring c =
       read = record {
         item = Guard ra.item rb.item;
         took = guard_took ra.item rb.item ra.took rb.took;
-        words = subst (λ (y : List ℕ). take c.in_ok-last.last.len y ≡ take c.args.len c.args.out.now ++ draft_stmt (Guard ra.item rb.item)) (sym c.head.ensures)
-            (guard_words c.args.out.now c.opened.new.out c.other.new.out c.args.len c.in_ok-first.first.len c.in_ok-last.last.len _ _ ra.item rb.item ra.words rb.words (omega arith) (omega arith) (omega (arith, fb.3)) s2 s3 c.units.ensures c.units-2.ensures);
+        words = subst (λ (y : List ℕ). take c.in_ok-last.last.len y ≡ take c.args.at.len c.args.out.now ++ draft_stmt (Guard ra.item rb.item)) (sym c.head.ensures)
+            (guard_words c.args.out.now c.opened.new.out c.other.new.out c.args.at.len c.in_ok-first.first.len c.in_ok-last.last.len _ _ ra.item rb.item ra.words rb.words (omega arith) (omega arith) (omega (arith, fb.3)) s2 s3 c.units.ensures c.units-2.ensures);
       };
     }
 
