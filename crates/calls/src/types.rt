@@ -157,6 +157,7 @@ pub enum Call<'a> {
         attempt: Attempt,
         ms: u32,
     },
+    // no `Option`: the bytes have a value either way, and a call is read so that its bytes can be told from it
     Report {
         flow: FlowId,
         step: Step,
@@ -175,7 +176,7 @@ pub enum Call<'a> {
     },
 }
 
-// A task that a worker takes, with the first `count` of its words.
+// A task that a worker takes, with the first `count` of its words (an array and a count as in `runs::step::Wish`).
 #[derive(Clone, Copy)]
 pub struct Job {
     pub flow: FlowId,

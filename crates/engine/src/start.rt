@@ -54,7 +54,8 @@ fn is_spent(root: &[u64; 40]) -> bool
     root[0] >= 4611686018427387903
 }
 
-// The other root page with one flow more, and then it counts.
+// The other root page with one flow more, and then it counts. That a number is left is tested once, in `start_free`; `low` hands it on, since
+// what is held may have none left.
 fn count_in<D: Device>(memory: &mut Memory<D>, held: &mut Held, slot: Slot)
     requires low { next_of held.old.root < 4611686018427387904 }
     ensures did { Did D.step (flip_to held.old.word (bumped (turn_at 1 slot held.old.root))) memory.old.dev tt memory.new.dev }

@@ -8,7 +8,7 @@ pub enum Standing {
     Out { until: u64 },
 }
 
-// The task that a flow waits for: the first `count` of its arguments, and zeros behind them.
+// The task that a flow waits for: the first `count` of its arguments, and zeros behind them (an array and a count as in `runs::step::Wish`).
 #[derive(Clone, Copy)]
 pub struct Task {
     pub kind: u64,

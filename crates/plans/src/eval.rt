@@ -27,7 +27,7 @@ pub enum Op {
     Halt,
 }
 
-// How many values are on the stack, and where the expressions ended.
+// How many values are on the stack, which is lent and of a fixed size, and where the expressions ended.
 #[derive(Clone, Copy, Debug, PartialEq, Eq)]
 pub struct Stopped {
     pub count: usize,

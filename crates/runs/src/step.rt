@@ -62,7 +62,8 @@ impl Place {
     }
 }
 
-// A task that a flow wants done, with the first `count` of its arguments.
+// A task that a flow wants done, with the first `count` of its arguments. An array and a count, since a house has no heap to hold them in.
+// A type for both whose value is their list was tried: the borrow checker fails on it inside an Option inside a struct that is lent.
 #[derive(Clone, Copy)]
 pub struct Wish {
     pub kind: u64,

@@ -33,6 +33,7 @@ pub enum Asked {
         attempt: Attempt,
         ms: u32,
     },
+    // as in `calls::types::Call`
     Report {
         flow: FlowId,
         step: Step,
