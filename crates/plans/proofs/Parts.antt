@@ -21,28 +21,36 @@ pub to_whole : {S : Type 0} (wrote : S → ℕ → S → Type 0) (room : S → �
 to_whole wrote room xs end s t u NoRoom k = k
 to_whole wrote room xs end s t u Damaged k = k
 
--- what is written in four pieces: too little room for one of them, and all of them
-module _ {S : Type 0} (wrote : S → ℕ → S → Type 0) (room : S → ℕ) (whole h i j k : List ℕ) (is : whole ≡ h ++ (i ++ (j ++ k))) where
-  lengths : length whole ≡ length h + (length i + (length j + length k))
-  lengths = let a = length-append h (i ++ (j ++ k)) in let b = length-append i (j ++ k) in let c = length-append j k in ap length is ∙ omega arith
+-- what is written in four pieces, some of which may be empty
+pub record Pieces (whole : List ℕ) : Type 0 where
+  pub first : List ℕ
+  pub second : List ℕ
+  pub third : List ℕ
+  pub fourth : List ℕ
+  pub is : whole ≡ first ++ (second ++ (third ++ fourth))
 
-  pub first_piece : (a b z : S) (e : LinkError) → Written wrote room (Err e) a h b → Written wrote room (Err e) a whole z
-  first_piece a b z e x = let l = lengths in written_short wrote room h whole a b z e (omega arith) x
+-- too little room for one of them, and all of them
+module _ {S : Type 0} (wrote : S → ℕ → S → Type 0) (room : S → ℕ) {whole : List ℕ} (q : Pieces whole) where
+  lengths : length whole ≡ length q.first + (length q.second + (length q.third + length q.fourth))
+  lengths = let a = length-append q.first (q.second ++ (q.third ++ q.fourth)) in let b = length-append q.second (q.third ++ q.fourth) in let c = length-append q.third q.fourth in ap length q.is ∙ omega arith
 
-  pub second_piece : (a b c z : S) (e : LinkError) → Wrote (Step wrote room) h a b → Written wrote room (Err e) b i c → Written wrote room (Err e) a whole z
+  pub first_piece : (a b z : S) (e : LinkError) → Written wrote room (Err e) a q.first b → Written wrote room (Err e) a whole z
+  first_piece a b z e x = let l = lengths in written_short wrote room q.first whole a b z e (omega arith) x
+
+  pub second_piece : (a b c z : S) (e : LinkError) → Wrote (Step wrote room) q.first a b → Written wrote room (Err e) b q.second c → Written wrote room (Err e) a whole z
   second_piece a b c z NoRoom p x = let l = lengths in let m = wrote_room room p in omega arith
   second_piece a b c z Damaged p x = x
 
-  pub third_piece : (a b c d z : S) (e : LinkError) → Wrote (Step wrote room) h a b → Wrote (Step wrote room) i b c → Written wrote room (Err e) c j d → Written wrote room (Err e) a whole z
-  third_piece a b c d z NoRoom p q x = let l = lengths in let m = wrote_room room p in let n = wrote_room room q in omega arith
-  third_piece a b c d z Damaged p q x = x
+  pub third_piece : (a b c d z : S) (e : LinkError) → Wrote (Step wrote room) q.first a b → Wrote (Step wrote room) q.second b c → Written wrote room (Err e) c q.third d → Written wrote room (Err e) a whole z
+  third_piece a b c d z NoRoom p r x = let l = lengths in let m = wrote_room room p in let n = wrote_room room r in omega arith
+  third_piece a b c d z Damaged p r x = x
 
-  pub fourth_piece : (a b c d f z : S) (e : LinkError) → Wrote (Step wrote room) h a b → Wrote (Step wrote room) i b c → Wrote (Step wrote room) j c d → Written wrote room (Err e) d k f → Written wrote room (Err e) a whole z
-  fourth_piece a b c d f z NoRoom p q r x = let l = lengths in let m = wrote_room room p in let n = wrote_room room q in let o = wrote_room room r in omega arith
-  fourth_piece a b c d f z Damaged p q r x = x
+  pub fourth_piece : (a b c d f z : S) (e : LinkError) → Wrote (Step wrote room) q.first a b → Wrote (Step wrote room) q.second b c → Wrote (Step wrote room) q.third c d → Written wrote room (Err e) d q.fourth f → Written wrote room (Err e) a whole z
+  fourth_piece a b c d f z NoRoom p r t x = let l = lengths in let m = wrote_room room p in let n = wrote_room room r in let o = wrote_room room t in omega arith
+  fourth_piece a b c d f z Damaged p r t x = x
 
-  pub all_pieces : (a b c d f : S) → Wrote (Step wrote room) h a b → Wrote (Step wrote room) i b c → Wrote (Step wrote room) j c d → Wrote (Step wrote room) k d f → Wrote (Step wrote room) whole a f
-  all_pieces a b c d f p q r x = subst (λ (l : List ℕ). Wrote (Step wrote room) l a f) (sym is) (wrote_append p _ (wrote_append q _ (wrote_append r _ x)))
+  pub all_pieces : (a b c d f : S) → Wrote (Step wrote room) q.first a b → Wrote (Step wrote room) q.second b c → Wrote (Step wrote room) q.third c d → Wrote (Step wrote room) q.fourth d f → Wrote (Step wrote room) whole a f
+  all_pieces a b c d f p r t x = subst (λ (l : List ℕ). Wrote (Step wrote room) l a f) (sym q.is) (wrote_append p _ (wrote_append r _ (wrote_append t _ x)))
 
 -- if
 pub record IfParts (ds : List ℕ) (at : ℕ) (e : Expr) (x y : Block) (rest : List ℕ) : Type 0 where
@@ -84,10 +92,20 @@ if_parts ds at e x y rest small d =
       other_is = other_is;
     }
 
-pub if_whole : (ds : List ℕ) (at : ℕ) (e : Expr) (x y : Block) (rest : List ℕ) (next : ℕ) (w : Way) (u d : ℕ) → IfParts ds at e x y rest →
+pub if_is : (ds : List ℕ) (at : ℕ) (e : Expr) (x y : Block) (rest : List ℕ) (next : ℕ) (w : Way) (u d : ℕ) → IfParts ds at e x y rest →
     lay_stmt at (If e x y) next w u d ≡ ((5 + 32 * d) ∷ (at + 4 * get_or ds (at + 1) 0) ∷ 0 ∷ 0 ∷ []) ++ (take (4 * get_or ds (at + 3) 0) (drop (at + 4) ds) ++ (lay (at + 4 + 4 * get_or ds (at + 3) 0) x next w u ++ lay (at + 4 * get_or ds (at + 1) 0) y next w u))
 unfolding lay_stmt
-if_whole ds at e x y rest next w u d p = rw (p.other_is, p.first_is, p.code) refl
+if_is ds at e x y rest next w u d p = rw (p.other_is, p.first_is, p.code) refl
+
+abbrev pub if_pieces : (ds : List ℕ) (at : ℕ) (e : Expr) (x y : Block) (rest : List ℕ) (next : ℕ) (w : Way) (u d : ℕ) → IfParts ds at e x y rest → Pieces (lay_stmt at (If e x y) next w u d)
+if_pieces ds at e x y rest next w u d p =
+    record {
+      first = (5 + 32 * d) ∷ (at + 4 * get_or ds (at + 1) 0) ∷ 0 ∷ 0 ∷ [];
+      second = take (4 * get_or ds (at + 3) 0) (drop (at + 4) ds);
+      third = lay (at + 4 + 4 * get_or ds (at + 3) 0) x next w u;
+      fourth = lay (at + 4 * get_or ds (at + 1) 0) y next w u;
+      is = if_is ds at e x y rest next w u d p;
+    }
 
 -- while
 pub record WhileParts (ds : List ℕ) (at : ℕ) (e : Expr) (x : Block) (rest : List ℕ) : Type 0 where
@@ -113,10 +131,20 @@ while_parts ds at e x rest small d =
       body_is = omega (arith, h.fourth);
     }
 
-pub while_whole : (ds : List ℕ) (at : ℕ) (e : Expr) (x : Block) (rest : List ℕ) (next : ℕ) (w : Way) (u d : ℕ) → WhileParts ds at e x rest →
+pub while_is : (ds : List ℕ) (at : ℕ) (e : Expr) (x : Block) (rest : List ℕ) (next : ℕ) (w : Way) (u d : ℕ) → WhileParts ds at e x rest →
     lay_stmt at (While e x) next w u d ≡ ((6 + 32 * d) ∷ (7 + 32 * (u + 1)) ∷ next ∷ 0 ∷ []) ++ (take (4 * get_or ds (at + 3) 0) (drop (at + 4) ds) ++ lay (at + 4 + 4 * get_or ds (at + 3) 0) x (at + 1) w (u + 1))
 unfolding lay_stmt
-while_whole ds at e x rest next w u d p = rw (p.body_is, p.code, add-one u, add-one at) refl
+while_is ds at e x rest next w u d p = rw (p.body_is, p.code, add-one u, add-one at) refl
+
+abbrev pub while_pieces : (ds : List ℕ) (at : ℕ) (e : Expr) (x : Block) (rest : List ℕ) (next : ℕ) (w : Way) (u d : ℕ) → WhileParts ds at e x rest → Pieces (lay_stmt at (While e x) next w u d)
+while_pieces ds at e x rest next w u d p =
+    record {
+      first = (6 + 32 * d) ∷ (7 + 32 * (u + 1)) ∷ next ∷ 0 ∷ [];
+      second = [];
+      third = take (4 * get_or ds (at + 3) 0) (drop (at + 4) ds);
+      fourth = lay (at + 4 + 4 * get_or ds (at + 3) 0) x (at + 1) w (u + 1);
+      is = while_is ds at e x rest next w u d p;
+    }
 
 -- guard
 pub record GuardParts (ds : List ℕ) (at : ℕ) (x y : Block) (rest : List ℕ) : Type 0 where
@@ -143,10 +171,20 @@ guard_parts ds at x y rest small d =
       other_is = other_is;
     }
 
-pub guard_whole : (ds : List ℕ) (at : ℕ) (x y : Block) (rest : List ℕ) (next : ℕ) (w : Way) (u d : ℕ) → GuardParts ds at x y rest →
+pub guard_is : (ds : List ℕ) (at : ℕ) (x y : Block) (rest : List ℕ) (next : ℕ) (w : Way) (u d : ℕ) → GuardParts ds at x y rest →
     lay_stmt at (Guard x y) next w u d ≡ ((8 + 32 * d) ∷ (9 + 32 * (u + 1)) ∷ next ∷ (at + 4 * get_or ds (at + 1) 0) ∷ []) ++ (lay (at + 4) x (at + 1) (To (at + 4 * get_or ds (at + 1) 0)) (u + 1) ++ lay (at + 4 * get_or ds (at + 1) 0) y next w u)
 unfolding lay_stmt
-guard_whole ds at x y rest next w u d p = rw (p.other_is, add-one u, add-one at) refl
+guard_is ds at x y rest next w u d p = rw (p.other_is, add-one u, add-one at) refl
+
+abbrev pub guard_pieces : (ds : List ℕ) (at : ℕ) (x y : Block) (rest : List ℕ) (next : ℕ) (w : Way) (u d : ℕ) → GuardParts ds at x y rest → Pieces (lay_stmt at (Guard x y) next w u d)
+guard_pieces ds at x y rest next w u d p =
+    record {
+      first = (8 + 32 * d) ∷ (9 + 32 * (u + 1)) ∷ next ∷ (at + 4 * get_or ds (at + 1) 0) ∷ [];
+      second = [];
+      third = lay (at + 4) x (at + 1) (To (at + 4 * get_or ds (at + 1) 0)) (u + 1);
+      fourth = lay (at + 4 * get_or ds (at + 1) 0) y next w u;
+      is = guard_is ds at x y rest next w u d p;
+    }
 
 -- parts
 pub part_big : (b : Block) (ds : List ℕ) (at : ℕ) (rest : List ℕ) → drop at ds ≡ draft_of b ++ rest → at + 4 ≤ length ds

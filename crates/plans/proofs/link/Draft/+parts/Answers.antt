@@ -1,9 +1,9 @@
-use Rattle.std.proofs.Common.{◌≡◌, ◌+◌, ◌*◌, [], ◌∷◌, ◌++◌, get_or, take, drop, Err, sym, ap, ◌∙◌, arith}
+use Rattle.std.proofs.Common.{◌≡◌, ◌+◌, ◌*◌, [], ◌∷◌, ◌++◌, get_or, drop, Err, sym, ap, ◌∙◌, arith}
 use Rattle.std.proofs.lemmas.Result.{err_from_is_err_and}
 use Rattle.plans.specs.Plan.{Stmt, Block, size_of}
 use Rattle.plans.specs.Flat.{To, way_of, draft_stmt, draft_of, lay_stmt, lay}
 use Rattle.plans.specs.Sheet.{nothing, Written, WrittenTo}
-use Rattle.plans.proofs.Parts.{first_piece, second_piece, third_piece, fourth_piece, all_pieces, to_written, to_whole, if_parts, if_whole, while_parts, while_whole, guard_parts, guard_whole, part_big, behind_is, steps, part_linked, part_refused, is_if, is_while, is_guard, is_simple_lem, end_linked, not_damaged, by_statement, some_size}
+use Rattle.plans.proofs.Parts.{first_piece, second_piece, third_piece, fourth_piece, all_pieces, to_written, to_whole, if_parts, if_pieces, while_parts, while_pieces, guard_parts, guard_pieces, part_big, behind_is, steps, part_linked, part_refused, is_if, is_while, is_guard, is_simple_lem, end_linked, not_damaged, by_statement, some_size}
 use Rattle.plans.proofs.Drafts.{lay_length}
 use Rattle.plans.proofs.Simple.{head_at, written_short}
 use Rattle.plans.proofs.link.Draft.+parts.Goals as goal
@@ -15,24 +15,24 @@ pub link_guard-returns-in_err-put_all : goal.link_guard-returns-in_err-put_all
 link_guard-returns-in_err-put_all g t c = λ x y rest d.
     let p = guard_parts c.args.self.now.words.now c.args.at x y rest c.args.self.now.small d in
     let q = err_from_is_err_and c.from_residual.result c.from_residual.ensures.1 in
-    rw (q.1, q.2) (first_piece g.S.Sheet.wrote g.S.Sheet.room _ ((8 + 32 * c.args.deep) ∷ (9 + 32 * (c.args.go.under + 1)) ∷ c.args.go.next ∷ (c.args.at + 4 * get_or c.args.self.now.words.now (c.args.at + 1) 0) ∷ []) ([]) (lay (c.args.at + 4) x (c.args.at + 1) (To (c.args.at + 4 * get_or c.args.self.now.words.now (c.args.at + 1) 0)) (c.args.go.under + 1)) (lay (c.args.at + 4 * get_or c.args.self.now.words.now (c.args.at + 1) 0) y c.args.go.next (way_of c.args.go.way) c.args.go.under) (guard_whole c.args.self.now.words.now c.args.at x y rest c.args.go.next (way_of c.args.go.way) c.args.go.under c.args.deep p) c.args.sheet.now c.put_all.new.sheet c.put_all.new.sheet c.in_err-put_all.field-0.0 c.in_err-put_all.ensures)
+    rw (q.1, q.2) (first_piece g.S.Sheet.wrote g.S.Sheet.room (guard_pieces c.args.self.now.words.now c.args.at x y rest c.args.go.next (way_of c.args.go.way) c.args.go.under c.args.deep p) c.args.sheet.now c.put_all.new.sheet c.put_all.new.sheet c.in_err-put_all.field-0.0 c.in_err-put_all.ensures)
 
 pub link_guard-returns-in_err-link_part : goal.link_guard-returns-in_err-link_part
 link_guard-returns-in_err-link_part g t c = λ x y rest d.
     let p = guard_parts c.args.self.now.words.now c.args.at x y rest c.args.self.now.small d in
     let q = err_from_is_err_and c.from_residual-in_err-link_part.result c.from_residual-in_err-link_part.ensures.1 in
-    rw (q.1, q.2) (third_piece g.S.Sheet.wrote g.S.Sheet.room _ ((8 + 32 * c.args.deep) ∷ (9 + 32 * (c.args.go.under + 1)) ∷ c.args.go.next ∷ (c.args.at + 4 * get_or c.args.self.now.words.now (c.args.at + 1) 0) ∷ []) ([]) (lay (c.args.at + 4) x (c.args.at + 1) (To (c.args.at + 4 * get_or c.args.self.now.words.now (c.args.at + 1) 0)) (c.args.go.under + 1)) (lay (c.args.at + 4 * get_or c.args.self.now.words.now (c.args.at + 1) 0) y c.args.go.next (way_of c.args.go.way) c.args.go.under) (guard_whole c.args.self.now.words.now c.args.at x y rest c.args.go.next (way_of c.args.go.way) c.args.go.under c.args.deep p) c.args.sheet.now c.put_all.new.sheet c.put_all.new.sheet c.link_part.new.sheet c.link_part.new.sheet c.in_err-link_part.field-0.0 c.in_ok-put_all.ensures nothing (to_written g.S.Sheet.wrote g.S.Sheet.room (lay (c.args.at + 4) x (c.args.at + 1) (To (c.args.at + 4 * get_or c.args.self.now.words.now (c.args.at + 1) 0)) (c.args.go.under + 1)) _ c.put_all.new.sheet c.link_part.new.sheet c.in_err-link_part.field-0.0 (c.in_err-link_part.ensures x _ p.first)))
+    rw (q.1, q.2) (third_piece g.S.Sheet.wrote g.S.Sheet.room (guard_pieces c.args.self.now.words.now c.args.at x y rest c.args.go.next (way_of c.args.go.way) c.args.go.under c.args.deep p) c.args.sheet.now c.put_all.new.sheet c.put_all.new.sheet c.link_part.new.sheet c.link_part.new.sheet c.in_err-link_part.field-0.0 c.in_ok-put_all.ensures nothing (to_written g.S.Sheet.wrote g.S.Sheet.room (lay (c.args.at + 4) x (c.args.at + 1) (To (c.args.at + 4 * get_or c.args.self.now.words.now (c.args.at + 1) 0)) (c.args.go.under + 1)) _ c.put_all.new.sheet c.link_part.new.sheet c.in_err-link_part.field-0.0 (c.in_err-link_part.ensures x _ p.first)))
 
 pub link_guard-returns-in_err-link_part-2 : goal.link_guard-returns-in_err-link_part-2
 link_guard-returns-in_err-link_part-2 g t c = λ x y rest d.
     let p = guard_parts c.args.self.now.words.now c.args.at x y rest c.args.self.now.small d in
     let q = err_from_is_err_and c.from_residual-in_err-link_part-2.result c.from_residual-in_err-link_part-2.ensures.1 in
-    rw (q.1, q.2) (fourth_piece g.S.Sheet.wrote g.S.Sheet.room _ ((8 + 32 * c.args.deep) ∷ (9 + 32 * (c.args.go.under + 1)) ∷ c.args.go.next ∷ (c.args.at + 4 * get_or c.args.self.now.words.now (c.args.at + 1) 0) ∷ []) ([]) (lay (c.args.at + 4) x (c.args.at + 1) (To (c.args.at + 4 * get_or c.args.self.now.words.now (c.args.at + 1) 0)) (c.args.go.under + 1)) (lay (c.args.at + 4 * get_or c.args.self.now.words.now (c.args.at + 1) 0) y c.args.go.next (way_of c.args.go.way) c.args.go.under) (guard_whole c.args.self.now.words.now c.args.at x y rest c.args.go.next (way_of c.args.go.way) c.args.go.under c.args.deep p) c.args.sheet.now c.put_all.new.sheet c.put_all.new.sheet c.link_part.new.sheet c.link_part-2.new.sheet c.link_part-2.new.sheet c.in_err-link_part-2.field-0.0 c.in_ok-put_all.ensures nothing (c.in_ok-link_part.ensures x _ p.first).1 (to_written g.S.Sheet.wrote g.S.Sheet.room (lay (c.args.at + 4 * get_or c.args.self.now.words.now (c.args.at + 1) 0) y c.args.go.next (way_of c.args.go.way) c.args.go.under) _ c.link_part.new.sheet c.link_part-2.new.sheet c.in_err-link_part-2.field-0.0 (c.in_err-link_part-2.ensures y _ p.other)))
+    rw (q.1, q.2) (fourth_piece g.S.Sheet.wrote g.S.Sheet.room (guard_pieces c.args.self.now.words.now c.args.at x y rest c.args.go.next (way_of c.args.go.way) c.args.go.under c.args.deep p) c.args.sheet.now c.put_all.new.sheet c.put_all.new.sheet c.link_part.new.sheet c.link_part-2.new.sheet c.link_part-2.new.sheet c.in_err-link_part-2.field-0.0 c.in_ok-put_all.ensures nothing (c.in_ok-link_part.ensures x _ p.first).1 (to_written g.S.Sheet.wrote g.S.Sheet.room (lay (c.args.at + 4 * get_or c.args.self.now.words.now (c.args.at + 1) 0) y c.args.go.next (way_of c.args.go.way) c.args.go.under) _ c.link_part.new.sheet c.link_part-2.new.sheet c.in_err-link_part-2.field-0.0 (c.in_err-link_part-2.ensures y _ p.other)))
 
 pub link_guard-returns : goal.link_guard-returns
 link_guard-returns g t c = λ x y rest d.
     let p = guard_parts c.args.self.now.words.now c.args.at x y rest c.args.self.now.small d in
-    all_pieces g.S.Sheet.wrote g.S.Sheet.room _ ((8 + 32 * c.args.deep) ∷ (9 + 32 * (c.args.go.under + 1)) ∷ c.args.go.next ∷ (c.args.at + 4 * get_or c.args.self.now.words.now (c.args.at + 1) 0) ∷ []) ([]) (lay (c.args.at + 4) x (c.args.at + 1) (To (c.args.at + 4 * get_or c.args.self.now.words.now (c.args.at + 1) 0)) (c.args.go.under + 1)) (lay (c.args.at + 4 * get_or c.args.self.now.words.now (c.args.at + 1) 0) y c.args.go.next (way_of c.args.go.way) c.args.go.under) (guard_whole c.args.self.now.words.now c.args.at x y rest c.args.go.next (way_of c.args.go.way) c.args.go.under c.args.deep p) c.args.sheet.now c.put_all.new.sheet c.put_all.new.sheet c.link_part.new.sheet c.link_part-2.new.sheet c.in_ok-put_all.ensures nothing (c.in_ok-link_part.ensures x _ p.first).1 (c.in_ok-link_part-2.ensures y _ p.other).1
+    all_pieces g.S.Sheet.wrote g.S.Sheet.room (guard_pieces c.args.self.now.words.now c.args.at x y rest c.args.go.next (way_of c.args.go.way) c.args.go.under c.args.deep p) c.args.sheet.now c.put_all.new.sheet c.put_all.new.sheet c.link_part.new.sheet c.link_part-2.new.sheet c.in_ok-put_all.ensures nothing (c.in_ok-link_part.ensures x _ p.first).1 (c.in_ok-link_part-2.ensures y _ p.other).1
 
 pub link_if-returns-then-to_else-eq0 : goal.link_if-returns-then-to_else-eq0
 link_if-returns-then-to_else-eq0 g t c = λ e x y rest d. let p = if_parts c.args.self.now.words.now c.args.at e x y rest c.args.self.now.small d in omega (arith, p.some, p.few, p.short, c.then-to_else-eq0.either)
@@ -41,30 +41,30 @@ pub link_if-returns-in_err-put_all : goal.link_if-returns-in_err-put_all
 link_if-returns-in_err-put_all g t c = λ e x y rest d.
     let p = if_parts c.args.self.now.words.now c.args.at e x y rest c.args.self.now.small d in
     let q = err_from_is_err_and c.from_residual.result c.from_residual.ensures.1 in
-    rw (q.1, q.2) (first_piece g.S.Sheet.wrote g.S.Sheet.room _ ((5 + 32 * c.args.deep) ∷ (c.args.at + 4 * get_or c.args.self.now.words.now (c.args.at + 1) 0) ∷ 0 ∷ 0 ∷ []) (take (4 * get_or c.args.self.now.words.now (c.args.at + 3) 0) (drop (c.args.at + 4) c.args.self.now.words.now)) (lay (c.args.at + 4 + 4 * get_or c.args.self.now.words.now (c.args.at + 3) 0) x c.args.go.next (way_of c.args.go.way) c.args.go.under) (lay (c.args.at + 4 * get_or c.args.self.now.words.now (c.args.at + 1) 0) y c.args.go.next (way_of c.args.go.way) c.args.go.under) (if_whole c.args.self.now.words.now c.args.at e x y rest c.args.go.next (way_of c.args.go.way) c.args.go.under c.args.deep p) c.args.sheet.now c.put_all.new.sheet c.put_all.new.sheet c.in_err-put_all.field-0.0 c.in_err-put_all.ensures)
+    rw (q.1, q.2) (first_piece g.S.Sheet.wrote g.S.Sheet.room (if_pieces c.args.self.now.words.now c.args.at e x y rest c.args.go.next (way_of c.args.go.way) c.args.go.under c.args.deep p) c.args.sheet.now c.put_all.new.sheet c.put_all.new.sheet c.in_err-put_all.field-0.0 c.in_err-put_all.ensures)
 
 pub link_if-returns-in_err-copy : goal.link_if-returns-in_err-copy
 link_if-returns-in_err-copy g t c = λ e x y rest d.
     let p = if_parts c.args.self.now.words.now c.args.at e x y rest c.args.self.now.small d in
     let q = err_from_is_err_and c.from_residual-in_err-copy.result c.from_residual-in_err-copy.ensures.1 in
-    rw (q.1, q.2) (second_piece g.S.Sheet.wrote g.S.Sheet.room _ ((5 + 32 * c.args.deep) ∷ (c.args.at + 4 * get_or c.args.self.now.words.now (c.args.at + 1) 0) ∷ 0 ∷ 0 ∷ []) (take (4 * get_or c.args.self.now.words.now (c.args.at + 3) 0) (drop (c.args.at + 4) c.args.self.now.words.now)) (lay (c.args.at + 4 + 4 * get_or c.args.self.now.words.now (c.args.at + 3) 0) x c.args.go.next (way_of c.args.go.way) c.args.go.under) (lay (c.args.at + 4 * get_or c.args.self.now.words.now (c.args.at + 1) 0) y c.args.go.next (way_of c.args.go.way) c.args.go.under) (if_whole c.args.self.now.words.now c.args.at e x y rest c.args.go.next (way_of c.args.go.way) c.args.go.under c.args.deep p) c.args.sheet.now c.put_all.new.sheet c.copy.new.sheet c.copy.new.sheet c.in_err-copy.field-0.0 c.in_ok-put_all.ensures (c.in_err-copy.ensures p.fits))
+    rw (q.1, q.2) (second_piece g.S.Sheet.wrote g.S.Sheet.room (if_pieces c.args.self.now.words.now c.args.at e x y rest c.args.go.next (way_of c.args.go.way) c.args.go.under c.args.deep p) c.args.sheet.now c.put_all.new.sheet c.copy.new.sheet c.copy.new.sheet c.in_err-copy.field-0.0 c.in_ok-put_all.ensures (c.in_err-copy.ensures p.fits))
 
 pub link_if-returns-in_err-link_part : goal.link_if-returns-in_err-link_part
 link_if-returns-in_err-link_part g t c = λ e x y rest d.
     let p = if_parts c.args.self.now.words.now c.args.at e x y rest c.args.self.now.small d in
     let q = err_from_is_err_and c.from_residual-in_err-link_part.result c.from_residual-in_err-link_part.ensures.1 in
-    rw (q.1, q.2) (third_piece g.S.Sheet.wrote g.S.Sheet.room _ ((5 + 32 * c.args.deep) ∷ (c.args.at + 4 * get_or c.args.self.now.words.now (c.args.at + 1) 0) ∷ 0 ∷ 0 ∷ []) (take (4 * get_or c.args.self.now.words.now (c.args.at + 3) 0) (drop (c.args.at + 4) c.args.self.now.words.now)) (lay (c.args.at + 4 + 4 * get_or c.args.self.now.words.now (c.args.at + 3) 0) x c.args.go.next (way_of c.args.go.way) c.args.go.under) (lay (c.args.at + 4 * get_or c.args.self.now.words.now (c.args.at + 1) 0) y c.args.go.next (way_of c.args.go.way) c.args.go.under) (if_whole c.args.self.now.words.now c.args.at e x y rest c.args.go.next (way_of c.args.go.way) c.args.go.under c.args.deep p) c.args.sheet.now c.put_all.new.sheet c.copy.new.sheet c.link_part.new.sheet c.link_part.new.sheet c.in_err-link_part.field-0.0 c.in_ok-put_all.ensures (c.in_ok-copy.ensures p.fits) (to_written g.S.Sheet.wrote g.S.Sheet.room (lay (c.args.at + 4 + 4 * get_or c.args.self.now.words.now (c.args.at + 3) 0) x c.args.go.next (way_of c.args.go.way) c.args.go.under) _ c.copy.new.sheet c.link_part.new.sheet c.in_err-link_part.field-0.0 (c.in_err-link_part.ensures x _ p.first)))
+    rw (q.1, q.2) (third_piece g.S.Sheet.wrote g.S.Sheet.room (if_pieces c.args.self.now.words.now c.args.at e x y rest c.args.go.next (way_of c.args.go.way) c.args.go.under c.args.deep p) c.args.sheet.now c.put_all.new.sheet c.copy.new.sheet c.link_part.new.sheet c.link_part.new.sheet c.in_err-link_part.field-0.0 c.in_ok-put_all.ensures (c.in_ok-copy.ensures p.fits) (to_written g.S.Sheet.wrote g.S.Sheet.room (lay (c.args.at + 4 + 4 * get_or c.args.self.now.words.now (c.args.at + 3) 0) x c.args.go.next (way_of c.args.go.way) c.args.go.under) _ c.copy.new.sheet c.link_part.new.sheet c.in_err-link_part.field-0.0 (c.in_err-link_part.ensures x _ p.first)))
 
 pub link_if-returns-in_err-link_part-2 : goal.link_if-returns-in_err-link_part-2
 link_if-returns-in_err-link_part-2 g t c = λ e x y rest d.
     let p = if_parts c.args.self.now.words.now c.args.at e x y rest c.args.self.now.small d in
     let q = err_from_is_err_and c.from_residual-in_err-link_part-2.result c.from_residual-in_err-link_part-2.ensures.1 in
-    rw (q.1, q.2) (fourth_piece g.S.Sheet.wrote g.S.Sheet.room _ ((5 + 32 * c.args.deep) ∷ (c.args.at + 4 * get_or c.args.self.now.words.now (c.args.at + 1) 0) ∷ 0 ∷ 0 ∷ []) (take (4 * get_or c.args.self.now.words.now (c.args.at + 3) 0) (drop (c.args.at + 4) c.args.self.now.words.now)) (lay (c.args.at + 4 + 4 * get_or c.args.self.now.words.now (c.args.at + 3) 0) x c.args.go.next (way_of c.args.go.way) c.args.go.under) (lay (c.args.at + 4 * get_or c.args.self.now.words.now (c.args.at + 1) 0) y c.args.go.next (way_of c.args.go.way) c.args.go.under) (if_whole c.args.self.now.words.now c.args.at e x y rest c.args.go.next (way_of c.args.go.way) c.args.go.under c.args.deep p) c.args.sheet.now c.put_all.new.sheet c.copy.new.sheet c.link_part.new.sheet c.link_part-2.new.sheet c.link_part-2.new.sheet c.in_err-link_part-2.field-0.0 c.in_ok-put_all.ensures (c.in_ok-copy.ensures p.fits) (c.in_ok-link_part.ensures x _ p.first).1 (to_written g.S.Sheet.wrote g.S.Sheet.room (lay (c.args.at + 4 * get_or c.args.self.now.words.now (c.args.at + 1) 0) y c.args.go.next (way_of c.args.go.way) c.args.go.under) _ c.link_part.new.sheet c.link_part-2.new.sheet c.in_err-link_part-2.field-0.0 (c.in_err-link_part-2.ensures y _ p.other)))
+    rw (q.1, q.2) (fourth_piece g.S.Sheet.wrote g.S.Sheet.room (if_pieces c.args.self.now.words.now c.args.at e x y rest c.args.go.next (way_of c.args.go.way) c.args.go.under c.args.deep p) c.args.sheet.now c.put_all.new.sheet c.copy.new.sheet c.link_part.new.sheet c.link_part-2.new.sheet c.link_part-2.new.sheet c.in_err-link_part-2.field-0.0 c.in_ok-put_all.ensures (c.in_ok-copy.ensures p.fits) (c.in_ok-link_part.ensures x _ p.first).1 (to_written g.S.Sheet.wrote g.S.Sheet.room (lay (c.args.at + 4 * get_or c.args.self.now.words.now (c.args.at + 1) 0) y c.args.go.next (way_of c.args.go.way) c.args.go.under) _ c.link_part.new.sheet c.link_part-2.new.sheet c.in_err-link_part-2.field-0.0 (c.in_err-link_part-2.ensures y _ p.other)))
 
 pub link_if-returns : goal.link_if-returns
 link_if-returns g t c = λ e x y rest d.
     let p = if_parts c.args.self.now.words.now c.args.at e x y rest c.args.self.now.small d in
-    all_pieces g.S.Sheet.wrote g.S.Sheet.room _ ((5 + 32 * c.args.deep) ∷ (c.args.at + 4 * get_or c.args.self.now.words.now (c.args.at + 1) 0) ∷ 0 ∷ 0 ∷ []) (take (4 * get_or c.args.self.now.words.now (c.args.at + 3) 0) (drop (c.args.at + 4) c.args.self.now.words.now)) (lay (c.args.at + 4 + 4 * get_or c.args.self.now.words.now (c.args.at + 3) 0) x c.args.go.next (way_of c.args.go.way) c.args.go.under) (lay (c.args.at + 4 * get_or c.args.self.now.words.now (c.args.at + 1) 0) y c.args.go.next (way_of c.args.go.way) c.args.go.under) (if_whole c.args.self.now.words.now c.args.at e x y rest c.args.go.next (way_of c.args.go.way) c.args.go.under c.args.deep p) c.args.sheet.now c.put_all.new.sheet c.copy.new.sheet c.link_part.new.sheet c.link_part-2.new.sheet c.in_ok-put_all.ensures (c.in_ok-copy.ensures p.fits) (c.in_ok-link_part.ensures x _ p.first).1 (c.in_ok-link_part-2.ensures y _ p.other).1
+    all_pieces g.S.Sheet.wrote g.S.Sheet.room (if_pieces c.args.self.now.words.now c.args.at e x y rest c.args.go.next (way_of c.args.go.way) c.args.go.under c.args.deep p) c.args.sheet.now c.put_all.new.sheet c.copy.new.sheet c.link_part.new.sheet c.link_part-2.new.sheet c.in_ok-put_all.ensures (c.in_ok-copy.ensures p.fits) (c.in_ok-link_part.ensures x _ p.first).1 (c.in_ok-link_part-2.ensures y _ p.other).1
 
 pub link_part-returns-then-at-self : goal.link_part-returns-then-at-self
 link_part-returns-then-at-self g t c = λ b rest d. let h = part_big b c.args.self.now.words.now c.args.at rest d in omega arith
@@ -106,24 +106,24 @@ pub link_while-returns-in_err-put_all : goal.link_while-returns-in_err-put_all
 link_while-returns-in_err-put_all g t c = λ e x rest d.
     let p = while_parts c.args.self.now.words.now c.args.at e x rest c.args.self.now.small d in
     let q = err_from_is_err_and c.from_residual.result c.from_residual.ensures.1 in
-    rw (q.1, q.2) (first_piece g.S.Sheet.wrote g.S.Sheet.room _ ((6 + 32 * c.args.deep) ∷ (7 + 32 * (c.args.go.under + 1)) ∷ c.args.go.next ∷ 0 ∷ []) ([]) (take (4 * get_or c.args.self.now.words.now (c.args.at + 3) 0) (drop (c.args.at + 4) c.args.self.now.words.now)) (lay (c.args.at + 4 + 4 * get_or c.args.self.now.words.now (c.args.at + 3) 0) x (c.args.at + 1) (way_of c.args.go.way) (c.args.go.under + 1)) (while_whole c.args.self.now.words.now c.args.at e x rest c.args.go.next (way_of c.args.go.way) c.args.go.under c.args.deep p) c.args.sheet.now c.put_all.new.sheet c.put_all.new.sheet c.in_err-put_all.field-0.0 c.in_err-put_all.ensures)
+    rw (q.1, q.2) (first_piece g.S.Sheet.wrote g.S.Sheet.room (while_pieces c.args.self.now.words.now c.args.at e x rest c.args.go.next (way_of c.args.go.way) c.args.go.under c.args.deep p) c.args.sheet.now c.put_all.new.sheet c.put_all.new.sheet c.in_err-put_all.field-0.0 c.in_err-put_all.ensures)
 
 pub link_while-returns-in_err-copy : goal.link_while-returns-in_err-copy
 link_while-returns-in_err-copy g t c = λ e x rest d.
     let p = while_parts c.args.self.now.words.now c.args.at e x rest c.args.self.now.small d in
     let q = err_from_is_err_and c.from_residual-in_err-copy.result c.from_residual-in_err-copy.ensures.1 in
-    rw (q.1, q.2) (third_piece g.S.Sheet.wrote g.S.Sheet.room _ ((6 + 32 * c.args.deep) ∷ (7 + 32 * (c.args.go.under + 1)) ∷ c.args.go.next ∷ 0 ∷ []) ([]) (take (4 * get_or c.args.self.now.words.now (c.args.at + 3) 0) (drop (c.args.at + 4) c.args.self.now.words.now)) (lay (c.args.at + 4 + 4 * get_or c.args.self.now.words.now (c.args.at + 3) 0) x (c.args.at + 1) (way_of c.args.go.way) (c.args.go.under + 1)) (while_whole c.args.self.now.words.now c.args.at e x rest c.args.go.next (way_of c.args.go.way) c.args.go.under c.args.deep p) c.args.sheet.now c.put_all.new.sheet c.put_all.new.sheet c.copy.new.sheet c.copy.new.sheet c.in_err-copy.field-0.0 c.in_ok-put_all.ensures nothing (c.in_err-copy.ensures p.fits))
+    rw (q.1, q.2) (third_piece g.S.Sheet.wrote g.S.Sheet.room (while_pieces c.args.self.now.words.now c.args.at e x rest c.args.go.next (way_of c.args.go.way) c.args.go.under c.args.deep p) c.args.sheet.now c.put_all.new.sheet c.put_all.new.sheet c.copy.new.sheet c.copy.new.sheet c.in_err-copy.field-0.0 c.in_ok-put_all.ensures nothing (c.in_err-copy.ensures p.fits))
 
 pub link_while-returns-in_err-link_part : goal.link_while-returns-in_err-link_part
 link_while-returns-in_err-link_part g t c = λ e x rest d.
     let p = while_parts c.args.self.now.words.now c.args.at e x rest c.args.self.now.small d in
     let q = err_from_is_err_and c.from_residual-in_err-link_part.result c.from_residual-in_err-link_part.ensures.1 in
-    rw (q.1, q.2) (fourth_piece g.S.Sheet.wrote g.S.Sheet.room _ ((6 + 32 * c.args.deep) ∷ (7 + 32 * (c.args.go.under + 1)) ∷ c.args.go.next ∷ 0 ∷ []) ([]) (take (4 * get_or c.args.self.now.words.now (c.args.at + 3) 0) (drop (c.args.at + 4) c.args.self.now.words.now)) (lay (c.args.at + 4 + 4 * get_or c.args.self.now.words.now (c.args.at + 3) 0) x (c.args.at + 1) (way_of c.args.go.way) (c.args.go.under + 1)) (while_whole c.args.self.now.words.now c.args.at e x rest c.args.go.next (way_of c.args.go.way) c.args.go.under c.args.deep p) c.args.sheet.now c.put_all.new.sheet c.put_all.new.sheet c.copy.new.sheet c.link_part.new.sheet c.link_part.new.sheet c.in_err-link_part.field-0.0 c.in_ok-put_all.ensures nothing (c.in_ok-copy.ensures p.fits) (to_written g.S.Sheet.wrote g.S.Sheet.room (lay (c.args.at + 4 + 4 * get_or c.args.self.now.words.now (c.args.at + 3) 0) x (c.args.at + 1) (way_of c.args.go.way) (c.args.go.under + 1)) _ c.copy.new.sheet c.link_part.new.sheet c.in_err-link_part.field-0.0 (c.in_err-link_part.ensures x _ p.body)))
+    rw (q.1, q.2) (fourth_piece g.S.Sheet.wrote g.S.Sheet.room (while_pieces c.args.self.now.words.now c.args.at e x rest c.args.go.next (way_of c.args.go.way) c.args.go.under c.args.deep p) c.args.sheet.now c.put_all.new.sheet c.put_all.new.sheet c.copy.new.sheet c.link_part.new.sheet c.link_part.new.sheet c.in_err-link_part.field-0.0 c.in_ok-put_all.ensures nothing (c.in_ok-copy.ensures p.fits) (to_written g.S.Sheet.wrote g.S.Sheet.room (lay (c.args.at + 4 + 4 * get_or c.args.self.now.words.now (c.args.at + 3) 0) x (c.args.at + 1) (way_of c.args.go.way) (c.args.go.under + 1)) _ c.copy.new.sheet c.link_part.new.sheet c.in_err-link_part.field-0.0 (c.in_err-link_part.ensures x _ p.body)))
 
 pub link_while-returns : goal.link_while-returns
 link_while-returns g t c = λ e x rest d.
     let p = while_parts c.args.self.now.words.now c.args.at e x rest c.args.self.now.small d in
-    all_pieces g.S.Sheet.wrote g.S.Sheet.room _ ((6 + 32 * c.args.deep) ∷ (7 + 32 * (c.args.go.under + 1)) ∷ c.args.go.next ∷ 0 ∷ []) ([]) (take (4 * get_or c.args.self.now.words.now (c.args.at + 3) 0) (drop (c.args.at + 4) c.args.self.now.words.now)) (lay (c.args.at + 4 + 4 * get_or c.args.self.now.words.now (c.args.at + 3) 0) x (c.args.at + 1) (way_of c.args.go.way) (c.args.go.under + 1)) (while_whole c.args.self.now.words.now c.args.at e x rest c.args.go.next (way_of c.args.go.way) c.args.go.under c.args.deep p) c.args.sheet.now c.put_all.new.sheet c.put_all.new.sheet c.copy.new.sheet c.link_part.new.sheet c.in_ok-put_all.ensures nothing (c.in_ok-copy.ensures p.fits) (c.in_ok-link_part.ensures x _ p.body).1
+    all_pieces g.S.Sheet.wrote g.S.Sheet.room (while_pieces c.args.self.now.words.now c.args.at e x rest c.args.go.next (way_of c.args.go.way) c.args.go.under c.args.deep p) c.args.sheet.now c.put_all.new.sheet c.put_all.new.sheet c.copy.new.sheet c.link_part.new.sheet c.in_ok-put_all.ensures nothing (c.in_ok-copy.ensures p.fits) (c.in_ok-link_part.ensures x _ p.body).1
 
 pub link_statement-returns-in-5 : goal.link_statement-returns-in-5
 link_statement-returns-in-5 g t c = λ s rest d. is_if (λ (z : Stmt). drop c.args.at c.args.self.now.words.now ≡ draft_stmt z ++ rest → Written g.S.Sheet.wrote g.S.Sheet.room c.link_if.result c.args.sheet.now (lay_stmt c.args.at z c.args.go.next (way_of c.args.go.way) c.args.go.under c.args.deep) c.link_if.new.sheet) s (sym (head_at c.args.self.now.words.now c.args.at s rest d).first ∙ c.in-5.is) (λ e x y i. c.link_if.ensures e x y rest i) d
