@@ -79,6 +79,13 @@ pub struct Moved {
     pub wish: Option<Wish>,
 }
 
+// A place from which there is a step more: its number is one of those that steps have.
+#[derive(Clone, Copy)]
+struct Going {
+    place: Place,
+    ghost early: { place.steps < 4611686018427387904 },
+}
+
 pub fn goes(place: Place, here: u64) -> Place
     ensures { result ≡ gone_to here place }
 {
@@ -164,15 +171,14 @@ fn gives(
 
 fn sleeps(
     words: &[u64],
-    place: Place,
+    going: Going,
     next: u64,
     expr: usize,
     time: Time,
     vars: &[u64; 64],
     stack: &mut [u64],
 ) -> Result<Place, Damaged>
-    requires { place.steps < 4611686018427387904 }
-    ensures { Placed result vars.now (does_w (length stack.old) words.now time (some (Sleep next expr)) place vars.now) }
+    ensures { Placed result vars.now (does_w (length stack.old) words.now time (some (Sleep next expr)) going.place vars.now) }
 {
     let Valued { value, .. } = eval(words, expr, vars, stack)?;
     let phase = Phase::Asleep {
@@ -181,15 +187,15 @@ fn sleeps(
     Ok(Place {
         phase,
         here: next as usize,
-        steps: place.steps + 1,
-        ..place
+        steps: going.place.steps + 1,
+        ..going.place
     })
 }
 
 // It waits for a word as if none had come yet: who keeps the words gives it one at once where one has.
 fn listens(
     words: &[u64],
-    place: Place,
+    going: Going,
     var: u64,
     came: u64,
     next: u64,
@@ -198,8 +204,7 @@ fn listens(
     vars: &[u64; 64],
     stack: &mut [u64],
 ) -> Result<Place, Damaged>
-    requires { place.steps < 4611686018427387904 }
-    ensures { Placed result vars.now (does_w (length stack.old) words.now time (some (Hear var came next name)) place vars.now) }
+    ensures { Placed result vars.now (does_w (length stack.old) words.now time (some (Hear var came next name)) going.place vars.now) }
 {
     if var >= 64 || came >= 64 || name >= words.len() {
         return Err(Damaged);
@@ -214,8 +219,8 @@ fn listens(
     Ok(Place {
         phase,
         here: next as usize,
-        steps: place.steps + 1,
-        ..place
+        steps: going.place.steps + 1,
+        ..going.place
     })
 }
 
@@ -232,7 +237,7 @@ pub fn first_args(values: &[u64], count: usize) -> [u64; 16]
 // It wishes for a task, and stays at its unit until that has a result or failed.
 fn asks(
     words: &[u64],
-    place: Place,
+    going: Going,
     var: u64,
     next: u64,
     way: Option<u64>,
@@ -240,8 +245,7 @@ fn asks(
     vars: &[u64; 64],
     stack: &mut [u64],
 ) -> Result<Moved, Damaged>
-    requires { place.steps < 4611686018427387904 }
-    ensures { Stepped result vars.now (does_w (length stack.old) words.now 0 (some (Do var next way task)) place vars.now) }
+    ensures { Stepped result vars.now (does_w (length stack.old) words.now 0 (some (Do var next way task)) going.place vars.now) }
 {
     if var >= 64 || task >= words.len() {
         return Err(Damaged);
@@ -259,10 +263,12 @@ fn asks(
         pause: word_at(words, task + 2),
     };
     let place = Place {
-        phase: Phase::Tasked { step: place.steps },
-        steps: place.steps + 1,
+        phase: Phase::Tasked {
+            step: going.place.steps,
+        },
+        steps: going.place.steps + 1,
         into: var,
-        ..place
+        ..going.place
     };
     Ok(Moved {
         place,
@@ -286,15 +292,15 @@ pub fn is_busy(phase: Phase) -> bool
 // What a statement does.
 fn does(
     words: &[u64],
-    place: Place,
+    going: Going,
     statement: Statement,
     time: Time,
     vars: &mut [u64; 64],
     stack: &mut [u64],
 ) -> Result<Moved, Damaged>
-    requires { place.steps < 4611686018427387904 }
-    ensures { Stepped result vars.new (does_w (length stack.old) words.now time (some statement) place vars.old) }
+    ensures { Stepped result vars.new (does_w (length stack.old) words.now time (some statement) going.place vars.old) }
 {
+    let place = going.place;
     match statement {
         Statement::Set { var, next, expr } => wishless(sets(
             words, place, var, next, expr, vars, stack,
@@ -304,16 +310,16 @@ fn does(
             next,
             way,
             task,
-        } => asks(words, place, var, next, way, task, vars, stack),
+        } => asks(words, going, var, next, way, task, vars, stack),
         Statement::Sleep { next, expr } => wishless(sleeps(
-            words, place, next, expr, time, vars, stack,
+            words, going, next, expr, time, vars, stack,
         )),
         Statement::Hear {
             var,
             came,
             next,
             name,
-        } => wishless(listens(words, place, var, came, next, name, time, vars, stack)),
+        } => wishless(listens(words, going, var, came, next, name, time, vars, stack)),
         Statement::If { other, expr } => wishless(branches(words, place, other, expr, vars, stack)),
         Statement::While { next, expr } => wishless(branches(
             words, place, next, expr, vars, stack,
@@ -346,7 +352,7 @@ fn walk(
         });
     }
     match statement_at(words, place.here) {
-        Some(statement) => does(words, place, statement, time, vars, stack),
+        Some(statement) => does(words, Going { place }, statement, time, vars, stack),
         None => Err(Damaged),
     }
 }

@@ -42,7 +42,7 @@ impl Wide for u64 {
     }
 }
 
-// A length of one byte, and the bytes.
+// A length of one byte, and the bytes. That one byte can tell it is tested once for all parts of a call, by `fits`.
 fn put_short(out: &mut Vec<u8>, bytes: &[u8]) -> Result<(), AllocError>
     requires { length bytes.now < 256 }
     ensures { OnOk result (out.new.items ≡ out.old.items ++ short_bytes bytes.now) }

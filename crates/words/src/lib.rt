@@ -52,6 +52,9 @@ impl Place for Neighbours {
     ghost below = { λ p i h. omega arith };
 }
 
+// That the memory has the lines of the place is asked of each of these four: the two are lent apart, and a type that held both would have to be made
+// anew at each call.
+
 // Loads words from where they stand, as many as `out` has.
 pub fn load_run<D: Device, P: Place>(dev: &mut D, place: &P, out: &mut [u64])
     requires fits { P.end place.now ≤ D.size dev.old }
