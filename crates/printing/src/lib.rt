@@ -538,6 +538,7 @@ fn print_braced(
 }
 
 // The part that begins here, one statement after another; then the address behind it.
+// A loop over places: how long a statement is shows only once it is printed.
 #[cycle(parts)]
 fn print_part(
     words: &[u64],
