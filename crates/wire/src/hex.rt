@@ -4,7 +4,7 @@ ghost use Rattle.wire.specs.Hex.{digit_of, small, bytes_of, letter_of, text_of};
 
 use std::alloc::{AllocError, Global};
 
-// The value of a digit, in either case.
+// The value of a digit, in either case. No `to_digit`, which is of a char, and whose answer would have to be made a byte again.
 pub fn digit(b: u8) -> Option<u8>
     ensures is { result ≡ digit_of b }
     ensures low { small result }
