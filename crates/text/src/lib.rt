@@ -236,14 +236,10 @@ fn past_word(text: &[u8], from: usize) -> usize
 fn step(n: u64, d: u8) -> Option<u64>
     ensures { Stepped result n d }
 {
-    if d < b'0' || b'9' < d {
+    if !d.is_ascii_digit() {
         return None;
     }
-    let x = (d - b'0') as u64;
-    if 1844674407370955161 < n || (n == 1844674407370955161 && 5 < x) {
-        return None;
-    }
-    Some(n * 10 + x)
+    n.checked_mul(10)?.checked_add(u64::from(d - b'0'))
 }
 
 // The number that a word is.
