@@ -463,6 +463,7 @@ fn print_statement(
     }
 }
 
+// An if, a loop and a guard have a function each: what they share is `print_braced`.
 #[cycle(parts)]
 fn print_if(words: &[u64], at: usize, depth: Depth, out: &mut Vec<u8>) -> Result<usize, PrintError>
     requires { at + 4 ≤ length words.now }

@@ -1,6 +1,7 @@
 // One token of a text, where it is the one that is wanted.
 ghost use Rattle.std.specs.Prelude.{◌≡◌, ◌≤◌, length};
 ghost use Rattle.text.specs.Ahead.{key_meant};
+ghost use Rattle.reading.specs.Tokens.{wanted_of, TookKey, TookSame, TookNumber, TookVariable, TookName};
 
 use crate::error::{Expected, NoPlan};
 use text::{Key, Lexeme, Operator, Token, token_at};
@@ -12,8 +13,6 @@ pub struct Found<T> {
     pub start: usize,
     pub next: usize,
 }
-
-ghost use Rattle.reading.specs.Tokens.{wanted_of, TookKey, TookSame, TookNumber, TookVariable, TookName};
 
 // A token that has what is wanted.
 fn wanted<T>(found: Lexeme, value: Option<T>, expected: Expected) -> Result<Found<T>, NoPlan>
