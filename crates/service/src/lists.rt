@@ -12,7 +12,7 @@ pub fn is_key(key: &[u8]) -> bool
     0 < key.len() && key.len() <= 64
 }
 
-// The numbers as words, one after the other, and 0 behind them; None where there are more than N.
+// The numbers as words, one after the other, at the front of an array; None where there are more than N.
 pub fn copied<T: Wide, const N: usize>(numbers: Numbers<'_, T>) -> Option<[u64; N]>
     ensures same { IfSome result (λ out. take (length (numbers_held T.WIDTH T.at numbers.entry)) out ≡ numbers_held T.WIDTH T.at numbers.entry) }
     ensures there { IsSome result ↔ (length (numbers_held T.WIDTH T.at numbers.entry) ≤ N) }

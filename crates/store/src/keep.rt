@@ -100,7 +100,7 @@ impl<D: Device> Memory<D> {
         ensures did { Did D.step (save_entry slot entry.now) self.old.dev tt self.new.dev }
         ensures stays { D.size self.new.dev ≡ D.size self.old.dev }
     {
-        save_words(&mut self.dev, 16 + slot.number() as u64 * 12, 12, entry);
+        save_entry(&mut self.dev, slot, entry);
     }
 
     // Writes the other root page, and then has it count.
@@ -108,8 +108,26 @@ impl<D: Device> Memory<D> {
         ensures did { Did D.step (flip_to word root.now) self.old.dev tt self.new.dev }
         ensures stays { D.size self.new.dev ≡ D.size self.old.dev }
     {
-        let other = 1 - word % 2;
-        save_words(&mut self.dev, 1 + other * 5, 5, root);
-        flip(&mut self.dev, 0, 0, other);
+        commit(&mut self.dev, word, root);
     }
+}
+
+// The entry of a slot stands in lines that every memory of so many has, also one that is too large.
+pub fn save_entry<D: Device>(dev: &mut D, slot: Slot, entry: &[u64; 96])
+    requires { 32768 ≤ D.size dev.old }
+    ensures did { Did D.step (save_entry slot entry.now) dev.old tt dev.new }
+    ensures stays { D.size dev.new ≡ D.size dev.old }
+{
+    save_words(dev, 16 + slot.number() as u64 * 12, 12, entry);
+}
+
+// And so do the root pages.
+pub fn commit<D: Device>(dev: &mut D, word: u64, root: &[u64; 40])
+    requires { 32768 ≤ D.size dev.old }
+    ensures did { Did D.step (flip_to word root.now) dev.old tt dev.new }
+    ensures stays { D.size dev.new ≡ D.size dev.old }
+{
+    let other = 1 - word % 2;
+    save_words(dev, 1 + other * 5, 5, root);
+    flip(dev, 0, 0, other);
 }
