@@ -1,5 +1,5 @@
 use Rattle.std.proofs.Common.{cond, ap, ◌∙◌}
-use Rattle.pages.specs.Events.{due_task, wanted_task}
+use Rattle.pages.specs.Events.{due_task}
 use Rattle.store.specs.Layout.{id_at}
 use Rattle.engine.specs.Works.{better, look_flow}
 use Rattle.engine.proofs.take.look_flow.Goals as goal
