@@ -39,7 +39,10 @@ mod tests {
         assert_eq!(rt; key.len(), 1);
         assert_eq!(rt; plan.len(), 2);
         assert_eq!(rt; words.len(), 1);
-        assert_eq!(rt; words.get(0), Some(261));
+        assert_eq!(rt; words.get(0), 261);
+        assert_eq!(rt; words.get(1), 0);
+        assert_eq!(rt; words.checked(0), Some(261));
+        assert_eq!(rt; words.checked(1), None);
         Ok(())
     }
 

@@ -21,7 +21,7 @@ pub struct Step(pub u64);
 pub struct Attempt(pub u16);
 
 // A number of a fixed width in bytes, the high byte first.
-pub trait Wide {
+pub trait Wide: Default {
     ghost WIDTH: { ℕ };
 
     // the number at a place
@@ -43,6 +43,9 @@ pub trait Wide {
 
     // a drop in front of it leaves it as it is
     ghost shifts: { (f : List ℕ) (n i : ℕ) → at (drop n f) i ≡ at f (n + i) };
+
+    // where none is given it is 0
+    ghost default_is_0: { (x : Self) → Self.is_default x → number x ≡ 0 };
 }
 
 impl Wide for u64 {
@@ -55,6 +58,8 @@ impl Wide for u64 {
     ghost some = { Prim.omega arith };
 
     ghost shifts = { eight_shifts };
+
+    ghost default_is_0 = { λ x e. e };
 
     const WIDTH: usize = 8;
 
@@ -77,6 +82,8 @@ impl Wide for u32 {
     ghost some = { Prim.omega arith };
 
     ghost shifts = { four_shifts };
+
+    ghost default_is_0 = { λ x e. e };
 
     const WIDTH: usize = 4;
 
@@ -119,7 +126,15 @@ impl<'a, T: Wide> Numbers<'a, T> {
         self.bytes.len() / T::WIDTH
     }
 
-    pub fn get(&self, i: usize) -> Option<T>
+    // 0 past the last.
+    pub fn get(&self, i: usize) -> T
+        ensures { T.number result ≡ slice_index (numbers_held T.WIDTH T.at self.now) i }
+    {
+        self.checked(i).unwrap_or_default()
+    }
+
+    // None past the last.
+    pub fn checked(&self, i: usize) -> Option<T>
         ensures some { IfSome result (λ n. T.number n ≡ slice_index (numbers_held T.WIDTH T.at self.now) i) }
         ensures there { IsSome result ↔ (i < length (numbers_held T.WIDTH T.at self.now)) }
     {
