@@ -2,6 +2,7 @@
 ghost use Rattle.std.specs.Prelude.{◌≡◌, ◌↔◌, ℕ, ◌+◌, ◌*◌, ◌<◌, ◌≤◌, List, length, drop, slice_index, IfSome, IsSome};
 ghost use Rattle.std.proofs.Common.{arith};
 ghost use Rattle.wire.specs.Bytes.{eight_at, four_at};
+ghost use Rattle.wire.specs.Frames.{number_of};
 ghost use Rattle.calls.specs.BytesLemmas.{eight_shifts, four_shifts};
 ghost use Rattle.calls.specs.Held.{numbers_held};
 
@@ -202,10 +203,36 @@ pub struct Job {
     pub count: usize,
 }
 
+// What has a number that goes out: why a call is turned away, or any number itself.
+pub trait Numbered: Copy {
+    // the number
+    ghost number: { Self → ℕ };
+
+    fn number(self) -> u8
+        ensures { result ≡ number self };
+}
+
+impl Numbered for Refusal {
+    ghost number = { number_of };
+
+    fn number(self) -> u8 {
+        u8::from(self)
+    }
+}
+
+impl Numbered for u8 {
+    ghost number = { λ n. n };
+
+    fn number(self) -> u8 {
+        self
+    }
+}
+
+// An answer, with what tells why a call is turned away.
 #[derive(Clone, Copy)]
-pub enum Reply {
+pub enum Response<N> {
     // turned away
-    No(Refusal),
+    No(N),
     Yes,
     Flow(FlowId),
     Job(Job),
@@ -213,3 +240,6 @@ pub enum Reply {
     State(Phase),
     Full,
 }
+
+// The answer of a house.
+pub type Reply = Response<Refusal>;

@@ -1,7 +1,7 @@
 use Rattle.std.proofs.Common.{Ok, sym, ◌∙◌, subst}
 use Rattle.std.proofs.lemmas.Result.{err_from_is_err_and}
 use Rattle.std.specs.Option.{is_some, unwrap_or}
-use Rattle.calls.specs.declared.types.Reply.TheVariants.{Yes}
+use Rattle.calls.specs.declared.types.Response.TheVariants.{Yes}
 use Rattle.device.specs.Does.{Did, bind}
 use Rattle.store.specs.Works.{load_plan}
 use Rattle.engine.specs.Works.{report_plan, shut_work}
