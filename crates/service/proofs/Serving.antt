@@ -2,8 +2,8 @@
 use Rattle.std.proofs.Common.{◌≡◌, ℕ, ◌<◌, ◌≤◌, true, false, cond, not, List, [], ◌∷◌, Ok, Result, sym, refl, subst}
 use Rattle.plans.specs.Plan.{Name, name_ok}
 use Rattle.flows.specs.House.{Show, No as noM}
-use Rattle.calls.specs.declared.types.Reply.{Reply}
-use Rattle.calls.specs.declared.types.Reply.TheVariants.{No}
+use Rattle.calls.specs.Replies.{Reply}
+use Rattle.calls.specs.declared.types.Response.TheVariants.{No}
 use Rattle.wire.specs.declared.Refusal.TheVariants.{BadCall}
 use Rattle.plans.specs.declared.eval.Damaged.{Damaged}
 use Rattle.device.specs.Lines.{Work}

@@ -8,7 +8,7 @@ use Rattle.store.specs.Layout.{Mind}
 use Rattle.calls.specs.Raw.{Raw}
 use Rattle.calls.specs.Called.{call_of}
 use Rattle.calls.specs.Stands.{InRange}
-use Rattle.calls.specs.declared.types.Reply.{Reply}
+use Rattle.calls.specs.Replies.{Reply}
 use Rattle.engine.specs.declared.held.Held.{Held}
 use Rattle.engine.specs.Works.{Answer, said, acts, does}
 use Rattle.engine.specs.Done.{mind_of, Done}

@@ -1,5 +1,5 @@
 use Rattle.std.proofs.Common.{Ok, sym, refl, subst}
-use Rattle.calls.specs.declared.types.Reply.TheVariants.{Yes}
+use Rattle.calls.specs.declared.types.Response.TheVariants.{Yes}
 use Rattle.engine.specs.Works.{cancel_flow}
 use Rattle.engine.specs.Done.{mind_of, Done}
 use Rattle.engine.proofs.Doing.{cancel_not, cancel_done}

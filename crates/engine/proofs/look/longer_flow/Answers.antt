@@ -1,5 +1,5 @@
 use Rattle.std.proofs.Common.{◌+◌, Ok, sym, refl, ap, ◌∙◌, subst, arith}
-use Rattle.calls.specs.declared.types.Reply.TheVariants as replies
+use Rattle.calls.specs.declared.types.Response.TheVariants as replies
 use Rattle.flows.specs.House.{No, Yes}
 use Rattle.pages.specs.Events.{handed_out}
 use Rattle.engine.specs.Works.{said, changes, tried_by, longer_flow}

@@ -1,7 +1,7 @@
 use Rattle.std.proofs.Common.{◌≡◌, ℕ, cond, Ok, sym, refl, ◌∙◌, subst}
 use Rattle.std.proofs.lemmas.Result.{err_from_is_err_and}
 use Rattle.std.specs.Option.{is_some, unwrap_or}
-use Rattle.calls.specs.declared.types.Reply.TheVariants.{Yes}
+use Rattle.calls.specs.declared.types.Response.TheVariants.{Yes}
 use Rattle.device.specs.Does.{Did, bind}
 use Rattle.pages.specs.Page.{damaged}
 use Rattle.pages.specs.Events.{worked_on, wrong_on}
