@@ -72,8 +72,8 @@ fn after(words: &[u64], ran: Ran, time: u64, vars: &mut [u64; 64]) -> anyhow::Re
             if place.into >= 64 {
                 return Err(anyhow!("a result with no variable"));
             }
-            let next = task_done(words, place, result_of(wish), vars)
-                .map_err(|_| anyhow!("damaged words"))?;
+            let done = task_done(words, place, result_of(wish), vars);
+            let next = done.map_err(|_| anyhow!("damaged words"))?;
             Ok(Done {
                 ran,
                 next: Some(next),
