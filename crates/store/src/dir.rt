@@ -25,10 +25,10 @@ pub const KEY: usize = 32;
 
 pub const MOST_SIZE: usize = 4096;
 
-// The words of the directory, an entry for each slot: whoever has so many words has a directory, lent ones too.
+// The words of the directory, an entry for each slot. It is no struct, so that words that a caller was lent can be one.
 pub type Dir = [u64; 98304];
 
-// What a directory is read for, and how an entry comes into it.
+// What is read of a directory, and written into it.
 pub trait Entries {
     // Its words.
     ghost list: { Self → List ℕ };
@@ -88,14 +88,14 @@ fn same_key(key: &[u8], words: &[u64]) -> bool
             .all(|(byte, word)| u64::from(*byte) == *word)
 }
 
-fn field(dir: &Dir, slot: Slot, k: usize) -> u64
+fn field_at(dir: &Dir, slot: Slot, k: usize) -> u64
     requires { k < 96 }
     ensures { result ≡ field dir.now slot k }
 {
     dir[slot.number() * ENTRY_WORDS + k]
 }
 
-fn weight_at(dir: &Dir, root: &[u64; 40], slot: Slot) -> u64
+fn weight_at(root: &[u64; 40], dir: &Dir, slot: Slot) -> u64
     ensures is { result ≡ weighs root.now dir.now slot }
     ensures low { result ≤ 81920 }
 {
@@ -110,19 +110,19 @@ impl Entries for Dir {
     ghost list = { λ d. d };
 
     fn id_at(&self, slot: Slot) -> u64 {
-        field(self, slot, ID)
+        field_at(self, slot, ID)
     }
 
     fn size_at(&self, slot: Slot) -> usize {
-        field(self, slot, SIZE).min(4096) as usize
+        field_at(self, slot, SIZE).min(4096) as usize
     }
 
     fn block_at(&self, slot: Slot, k: usize) -> u64 {
-        field(self, slot, BLOCKS + k)
+        field_at(self, slot, BLOCKS + k)
     }
 
     fn key_at(&self, slot: Slot) -> &[u64] {
-        let length = field(self, slot, KEY_LENGTH).min(64) as usize;
+        let length = field_at(self, slot, KEY_LENGTH).min(64) as usize;
         let start = slot.number() * ENTRY_WORDS + KEY;
         &self[start..start + length]
     }
@@ -147,7 +147,7 @@ impl Entries for Dir {
 
     fn weight(&self, root: &[u64; 40]) -> u64 {
         (0..SLOTS)
-            .map(|i| weight_at(self, root, Slot::new(i)))
+            .map(|i| weight_at(root, self, Slot::new(i)))
             .sum()
     }
 
