@@ -17,7 +17,7 @@ use pages::look::{cancelled, handed, is_over, tried};
 use plans::eval::Damaged;
 use runs::step::Phase;
 use runs::time::Time;
-use store::dir::Dir;
+use store::dir::{Dir, Entries};
 use store::keep::Memory;
 use store::root::turn_used;
 use store::slot::Slot;

@@ -17,7 +17,7 @@ use pages::event::begin;
 use pages::flow::Flow;
 use pages::page::encode;
 use plans::eval::Damaged;
-use store::dir::{Dir, free_slot};
+use store::dir::{Dir, Entries, free_slot};
 use store::entry::{bump, entry_of};
 use store::keep::Memory;
 use store::room::{blocks_for, choose, mark};

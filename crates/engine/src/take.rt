@@ -10,7 +10,7 @@ use device::Device;
 use pages::flow::Flow;
 use pages::look::{due_at, handed, is_wanted, step_of};
 use plans::eval::Damaged;
-use store::dir::Dir;
+use store::dir::{Dir, Entries};
 use store::keep::Memory;
 use store::root::is_used;
 use store::slot::{SLOTS, Slot};

@@ -14,7 +14,7 @@ use pages::look::stirs;
 use pages::page::encode;
 use plans::eval::Damaged;
 use runs::time::Time;
-use store::dir::Dir;
+use store::dir::{Dir, Entries};
 use store::keep::Memory;
 use store::root::{is_used, pick, turn_pick};
 use store::slot::{SLOTS, Slot};

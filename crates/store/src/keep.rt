@@ -4,7 +4,7 @@ ghost use Rattle.device.specs.Does.{Did};
 ghost use Rattle.store.specs.Layout.{Mind, size_at};
 ghost use Rattle.store.specs.Works.{rise_work, load_page, load_plan, save_page, save_entry, save_plan, flip_to};
 
-use crate::dir::Dir;
+use crate::dir::{Dir, Entries};
 use crate::root::pick;
 use crate::slot::{PageCopy, Slot};
 use blocks::{Blocks, blocks_in};
@@ -41,7 +41,7 @@ impl<D: Device> Memory<D> {
     {
         let word = self.dev.load(0, 0);
         load_words(&mut self.dev, 1 + word % 2 * 5, root);
-        load_words(&mut self.dev, 16, &mut dir.words);
+        load_words(&mut self.dev, 16, dir);
         word
     }
 
