@@ -53,13 +53,13 @@ pub trait Device {
     ghost stays: { (s : Self) (o : Op) (t : Self) → step s o t → size t ≡ size s };
 }
 
-// A memory that is lent is one.
+// A memory that is lent is one: it does what the memory behind it does, and stays the same loan, so that the lender knows what came of it.
 impl<D: Device> Device for &mut D {
-    ghost step = { λ s o t. D.step s.now o t.now };
+    ghost step = { λ s o t. D.step s.now o t.now × (t.ghost_name ≡ s.ghost_name) };
 
     ghost size = { λ s. D.size s.now };
 
-    ghost stays = { λ s o t k. D.stays s.now o t.now k };
+    ghost stays = { λ s o t k. D.stays s.now o t.now k.0 };
 
     fn lines(&self) -> u64 {
         Device::lines(&**self)

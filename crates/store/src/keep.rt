@@ -112,6 +112,19 @@ impl<D: Device> Memory<D> {
     }
 }
 
+// Rising in a memory that is lent: it is as large as a house needs, so that there is a `Memory` over it.
+pub fn rise<D: Device>(dev: &mut D, root: &mut [u64; 40], dir: &mut Dir) -> u64
+    requires fits { 32768 ≤ D.size dev.old }
+    requires few { D.size dev.old ≤ 1099511627776 }
+    ensures did { Did D.step (rise_work (D.size dev.old)) dev.old (record { lines = D.size dev.old; now = 0; word = result; page = root.new; dir = dir.new }) dev.new }
+    ensures stays { D.size dev.new ≡ D.size dev.old }
+{
+    match Memory::new(dev) {
+        Some(mut memory) => memory.rise(root, dir),
+        None => 0,
+    }
+}
+
 // The entry of a slot stands in lines that every memory of so many has, also one that is too large.
 pub fn save_entry<D: Device>(dev: &mut D, slot: Slot, entry: &[u64; 96])
     requires { 32768 ≤ D.size dev.old }
