@@ -2,7 +2,7 @@
 // it reads and prints each text once, and writes sizes only.
 #![tactic(auto)]
 
-use anyhow::Context;
+use anyhow::anyhow;
 use plans::kinds::MOST_WORDS;
 use plans::sheet::Slate;
 use printing::print;
@@ -72,7 +72,7 @@ fn read_often(
     let mut size = 0;
     for _ in 0..passes {
         slate.clear();
-        size = read(text, draft, slate).context("the text is no plan")?;
+        size = read(text, draft, slate).map_err(|_| anyhow!("the text is no plan"))?;
     }
     Ok(size)
 }
@@ -82,7 +82,7 @@ fn print_often(heap: Global, passes: u64, slate: &Slate) -> anyhow::Result<usize
     let mut len = 0;
     for _ in 0..passes {
         let mut out = Vec::new(heap);
-        print(slate.as_slice(), &mut out).context("the plan was not printed")?;
+        print(slate.as_slice(), &mut out).map_err(|_| anyhow!("the plan was not printed"))?;
         len = out.len();
     }
     Ok(len)

@@ -8,11 +8,11 @@ use mir.Syntax.{w32, w64}
 use borrow.Author.Tests.{lt-leb}
 use Rattle.std.proofs.lemmas.Bool.{cond-true, cond-false}
 use Rattle.calls.specs.Bytes.{two_bytes, four_bytes, eight_bytes, all_of, all_eight}
-use Rattle.calls.specs.Replies.{words_of, bytes_of, fitting, Wrote}
+use Rattle.calls.specs.Replies.{words_of, bytes_by, fitting, Wrote}
 use Rattle.calls.specs.Lines.{framed}
 use Rattle.calls.specs.declared.types.Job.{Job as JobHeld}
-use Rattle.calls.specs.declared.types.Reply.{Reply}
-use Rattle.calls.specs.declared.types.Reply.TheVariants.{Job}
+use Rattle.calls.specs.declared.types.Response.{Response}
+use Rattle.calls.specs.declared.types.Response.TheVariants.{Job}
 
 -- a part of a slice that is written over
 pub put_is : (out bytes : List ℕ) (at k : ℕ) → k ≡ length bytes → at + length bytes ≤ length out → put_mid at k out bytes ≡ sets out at bytes
@@ -90,11 +90,11 @@ job_put o o1 o2 o3 o4 o5 o6 o7 xs at f s a k p1 p2 p3 p4 p5 p6 p7 =
     let b6 : List ℕ = b5 ++ (length xs ∷ []) in
     behind b6 (all_eight xs) o o6 o7 at (at + 24) q6 refl p7
 
-pub job_size : (r : Reply) (j : JobHeld) → r ≡ Job j → length (bytes_of r) ≡ 24 + 8 * length (words_of j)
-job_size r j e =
+pub job_size : {N : Type 0} (number : N → ℕ) (r : Response N) (j : JobHeld) → r ≡ Job j → length (bytes_by number r) ≡ 24 + 8 * length (words_of j)
+job_size number r j e =
     let l = length_all_eight (words_of j) in
-    let m : length (bytes_of (Job j)) ≡ 24 + 8 * length (words_of j) = omega arith in
-    ap (λ x. length (bytes_of x)) e ∙ m
+    let m : length (bytes_by number (Job j)) ≡ 24 + 8 * length (words_of j) = omega arith in
+    ap (λ x. length (bytes_by number x)) e ∙ m
 
 pub wrote_short : (bs old : List ℕ) → length old < length bs → Wrote bs old old None
 wrote_short bs old h =

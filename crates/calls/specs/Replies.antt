@@ -5,10 +5,11 @@ use Rattle.flows.specs.House.{Reply as Meant, No as noM, Yes as yesM, Flow' as f
 use Rattle.runs.specs.declared.step.Phase.{Phase}
 use Rattle.runs.specs.declared.step.Phase.TheVariants.{Busy, Tasked, Asleep, Listens, Ended, Failed}
 use Rattle.wire.specs.Frames.{number_of}
+use Rattle.wire.specs.declared.Refusal.{Refusal}
 use Rattle.calls.specs.Bytes.{two_bytes, four_bytes, eight_bytes, all_eight}
 use Rattle.calls.specs.declared.types.Job.{Job as JobHeld}
-use Rattle.calls.specs.declared.types.Reply.{Reply}
-use Rattle.calls.specs.declared.types.Reply.TheVariants.{No, Yes, Flow, Job, Nothing, State, Full}
+use Rattle.calls.specs.declared.types.Response.{Response}
+use Rattle.calls.specs.declared.types.Response.TheVariants.{No, Yes, Flow, Job, Nothing, State, Full}
 
 -- THE BYTES OF AN ANSWER -----------------------------------------------------------
 
@@ -48,14 +49,25 @@ phase_of Failed = failedP
 abbrev pub words_of : JobHeld → List ℕ
 words_of j = take j.count j.args
 
+-- by the number of what tells why a call is turned away
+abbrev pub meant_by : {N : Type 0} → (N → ℕ) → Response N → Meant
+meant_by number (No why) = noM (number why)
+meant_by number Yes = yesM
+meant_by number (Flow f) = flowM f.0
+meant_by number (Job j) = jobM j.flow.0 j.step.0 j.attempt.0 j.kind (words_of j)
+meant_by number Nothing = nothingM
+meant_by number (State p) = stateM (phase_of p)
+meant_by number Full = fullM
+
+abbrev pub bytes_by : {N : Type 0} → (N → ℕ) → Response N → List ℕ
+bytes_by number r = reply_bytes (meant_by number r)
+
+-- the answer of a house
+abbrev pub Reply : Type 0
+Reply = Response Refusal
+
 abbrev pub reply_of : Reply → Meant
-reply_of (No why) = noM (number_of why)
-reply_of Yes = yesM
-reply_of (Flow f) = flowM f.0
-reply_of (Job j) = jobM j.flow.0 j.step.0 j.attempt.0 j.kind (words_of j)
-reply_of Nothing = nothingM
-reply_of (State p) = stateM (phase_of p)
-reply_of Full = fullM
+reply_of r = meant_by number_of r
 
 abbrev pub bytes_of : Reply → List ℕ
 bytes_of r = reply_bytes (reply_of r)

@@ -21,8 +21,8 @@ pub fn calls_stand() -> u8
 mod tests {
     use super::lines::frame_of;
     use super::read::read_call;
-    use super::types::{Call, Refusal, Reply};
-    use super::write::write_line;
+    use super::types::{Call, Refusal, Reply, Response};
+    use super::write::{write_line, write_reply};
     use std::test::Fail;
 
     #[test]
@@ -39,7 +39,10 @@ mod tests {
         assert_eq!(rt; key.len(), 1);
         assert_eq!(rt; plan.len(), 2);
         assert_eq!(rt; words.len(), 1);
-        assert_eq!(rt; words.get(0), Some(261));
+        assert_eq!(rt; words.get(0), 261);
+        assert_eq!(rt; words.get(1), 0);
+        assert_eq!(rt; words.checked(0), Some(261));
+        assert_eq!(rt; words.checked(1), None);
         Ok(())
     }
 
@@ -52,6 +55,17 @@ mod tests {
         );
         assert!(rt; out[3] == 6 && out[6] == 1 && out[7] == 2);
         assert!(rt; out[8] == 0 && out[9] == 5 && out[10] == 9);
+        Ok(())
+    }
+
+    #[test]
+    fn writes_any_number(rt: HostRuntime) -> Result<(), Fail> {
+        let mut out = [9; 160];
+        assert_eq!(rt;
+            write_reply(&Response::No(4_u8), &mut out).ok_or("no room")?,
+            2
+        );
+        assert!(rt; out[0] == 0 && out[1] == 4 && out[2] == 9);
         Ok(())
     }
 }

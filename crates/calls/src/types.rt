@@ -2,6 +2,7 @@
 ghost use Rattle.std.specs.Prelude.{◌≡◌, ◌↔◌, ℕ, ◌+◌, ◌*◌, ◌<◌, ◌≤◌, List, length, drop, slice_index, IfSome, IsSome};
 ghost use Rattle.std.proofs.Common.{arith};
 ghost use Rattle.wire.specs.Bytes.{eight_at, four_at};
+ghost use Rattle.wire.specs.Frames.{number_of};
 ghost use Rattle.calls.specs.BytesLemmas.{eight_shifts, four_shifts};
 ghost use Rattle.calls.specs.Held.{numbers_held};
 
@@ -21,7 +22,7 @@ pub struct Step(pub u64);
 pub struct Attempt(pub u16);
 
 // A number of a fixed width in bytes, the high byte first.
-pub trait Wide {
+pub trait Wide: Default {
     ghost WIDTH: { ℕ };
 
     // the number at a place
@@ -43,6 +44,9 @@ pub trait Wide {
 
     // a drop in front of it leaves it as it is
     ghost shifts: { (f : List ℕ) (n i : ℕ) → at (drop n f) i ≡ at f (n + i) };
+
+    // where none is given it is 0
+    ghost default_is_0: { (x : Self) → Self.is_default x → number x ≡ 0 };
 }
 
 impl Wide for u64 {
@@ -55,6 +59,8 @@ impl Wide for u64 {
     ghost some = { Prim.omega arith };
 
     ghost shifts = { eight_shifts };
+
+    ghost default_is_0 = { λ x e. e };
 
     const WIDTH: usize = 8;
 
@@ -77,6 +83,8 @@ impl Wide for u32 {
     ghost some = { Prim.omega arith };
 
     ghost shifts = { four_shifts };
+
+    ghost default_is_0 = { λ x e. e };
 
     const WIDTH: usize = 4;
 
@@ -119,7 +127,15 @@ impl<'a, T: Wide> Numbers<'a, T> {
         self.bytes.len() / T::WIDTH
     }
 
-    pub fn get(&self, i: usize) -> Option<T>
+    // 0 past the last.
+    pub fn get(&self, i: usize) -> T
+        ensures { T.number result ≡ slice_index (numbers_held T.WIDTH T.at self.now) i }
+    {
+        self.checked(i).unwrap_or_default()
+    }
+
+    // None past the last.
+    pub fn checked(&self, i: usize) -> Option<T>
         ensures some { IfSome result (λ n. T.number n ≡ slice_index (numbers_held T.WIDTH T.at self.now) i) }
         ensures there { IsSome result ↔ (i < length (numbers_held T.WIDTH T.at self.now)) }
     {
@@ -187,10 +203,36 @@ pub struct Job {
     pub count: usize,
 }
 
+// What has a number that goes out: why a call is turned away, or any number itself.
+pub trait Numbered: Copy {
+    // the number
+    ghost number: { Self → ℕ };
+
+    fn number(self) -> u8
+        ensures { result ≡ number self };
+}
+
+impl Numbered for Refusal {
+    ghost number = { number_of };
+
+    fn number(self) -> u8 {
+        u8::from(self)
+    }
+}
+
+impl Numbered for u8 {
+    ghost number = { λ n. n };
+
+    fn number(self) -> u8 {
+        self
+    }
+}
+
+// An answer, with what tells why a call is turned away.
 #[derive(Clone, Copy)]
-pub enum Reply {
+pub enum Response<N> {
     // turned away
-    No(Refusal),
+    No(N),
     Yes,
     Flow(FlowId),
     Job(Job),
@@ -198,3 +240,6 @@ pub enum Reply {
     State(Phase),
     Full,
 }
+
+// The answer of a house.
+pub type Reply = Response<Refusal>;

@@ -2,10 +2,10 @@
 ghost use Rattle.std.specs.Prelude.{◌≡◌, ◌+◌, ◌*◌, ◌<◌, ◌≤◌, [], length, IsSome};
 ghost use Rattle.std.proofs.lemmas.List.Edits.{sets};
 ghost use Rattle.calls.specs.Bytes.{all_eight};
-ghost use Rattle.calls.specs.Replies.{phase_of, words_of, phase_bytes, job_bytes, bytes_of, Wrote};
+ghost use Rattle.calls.specs.Replies.{phase_of, words_of, phase_bytes, job_bytes, bytes_by, Wrote};
 ghost use Rattle.calls.specs.Lines.{framed};
 
-use crate::types::{Job, Reply};
+use crate::types::{Job, Numbered, Response};
 use runs::step::Phase;
 
 fn put<const N: usize>(out: &mut [u8], at: usize, bytes: [u8; N])
@@ -83,48 +83,48 @@ fn phase_size(phase: Phase) -> usize
     }
 }
 
-impl Reply {
+impl<N: Numbered> Response<N> {
     // How many bytes it has.
     pub fn size(&self) -> usize
-        ensures is { result ≡ length (bytes_of self.now) }
+        ensures is { result ≡ length (bytes_by N.number self.now) }
         ensures few { result ≤ 152 }
     {
         match *self {
-            Reply::No(_) => 2,
-            Reply::Yes => 1,
-            Reply::Flow(_) => 9,
-            Reply::Job(job) => 24 + 8 * job.words().len(),
-            Reply::Nothing => 1,
-            Reply::State(phase) => 1 + phase_size(phase),
-            Reply::Full => 1,
+            Response::No(_) => 2,
+            Response::Yes => 1,
+            Response::Flow(_) => 9,
+            Response::Job(job) => 24 + 8 * job.words().len(),
+            Response::Nothing => 1,
+            Response::State(phase) => 1 + phase_size(phase),
+            Response::Full => 1,
         }
     }
 }
 
-fn put_reply(reply: &Reply, out: &mut [u8], at: usize)
-    requires { at + length (bytes_of reply.now) ≤ length out.old }
-    ensures { out.new ≡ sets out.old at (bytes_of reply.now) }
+fn put_reply<N: Numbered>(reply: &Response<N>, out: &mut [u8], at: usize)
+    requires { at + length (bytes_by N.number reply.now) ≤ length out.old }
+    ensures { out.new ≡ sets out.old at (bytes_by N.number reply.now) }
 {
     match *reply {
-        Reply::No(why) => put(out, at, [0, u8::from(why)]),
-        Reply::Yes => out[at] = 1,
-        Reply::Flow(flow) => {
+        Response::No(why) => put(out, at, [0, why.number()]),
+        Response::Yes => out[at] = 1,
+        Response::Flow(flow) => {
             out[at] = 2;
             put(out, at + 1, flow.0.to_be_bytes());
         }
-        Reply::Job(job) => put_job(&job, out, at),
-        Reply::Nothing => out[at] = 4,
-        Reply::State(phase) => {
+        Response::Job(job) => put_job(&job, out, at),
+        Response::Nothing => out[at] = 4,
+        Response::State(phase) => {
             out[at] = 5;
             put_phase(phase, out, at + 1);
         }
-        Reply::Full => out[at] = 6,
+        Response::Full => out[at] = 6,
     }
 }
 
 // Writes an answer at the front; None where there is no room, and nothing is written.
-pub fn write_reply(reply: &Reply, out: &mut [u8]) -> Option<usize>
-    ensures wrote { Wrote (bytes_of reply.now) out.old out.new result }
+pub fn write_reply<N: Numbered>(reply: &Response<N>, out: &mut [u8]) -> Option<usize>
+    ensures wrote { Wrote (bytes_by N.number reply.now) out.old out.new result }
     ensures room { 160 ≤ length out.old → IsSome result }
 {
     let size = reply.size();
@@ -136,8 +136,8 @@ pub fn write_reply(reply: &Reply, out: &mut [u8]) -> Option<usize>
 }
 
 // Writes the line of an answer, in the same way.
-pub fn write_line(tag: u32, reply: &Reply, out: &mut [u8]) -> Option<usize>
-    ensures wrote { Wrote (framed tag (bytes_of reply.now)) out.old out.new result }
+pub fn write_line<N: Numbered>(tag: u32, reply: &Response<N>, out: &mut [u8]) -> Option<usize>
+    ensures wrote { Wrote (framed tag (bytes_by N.number reply.now)) out.old out.new result }
     ensures room { 160 ≤ length out.old → IsSome result }
 {
     let size = reply.size();

@@ -53,6 +53,35 @@ pub trait Device {
     ghost stays: { (s : Self) (o : Op) (t : Self) → step s o t → size t ≡ size s };
 }
 
+// A memory that is lent is one: it does what the memory behind it does, and stays the same loan, so that the lender knows what came of it.
+impl<D: Device> Device for &mut D {
+    ghost step = { λ s o t. D.step s.now o t.now × (t.ghost_name ≡ s.ghost_name) };
+
+    ghost size = { λ s. D.size s.now };
+
+    ghost stays = { λ s o t k. D.stays s.now o t.now k.0 };
+
+    fn lines(&self) -> u64 {
+        Device::lines(&**self)
+    }
+
+    fn load(&mut self, line: u64, word: u64) -> u64 {
+        Device::load(&mut **self, line, word)
+    }
+
+    fn store(&mut self, line: u64, word: u64, value: u64) {
+        Device::store(&mut **self, line, word, value)
+    }
+
+    fn push(&mut self, line: u64) {
+        Device::push(&mut **self, line)
+    }
+
+    fn fence(&mut self) {
+        Device::fence(&mut **self)
+    }
+}
+
 // A memory in which a load gives what was stored last, as long as it has not stopped.
 pub trait Coherent: Device {
     // The memory holds these lines.

@@ -10,10 +10,9 @@ use Rattle.pages.specs.declared.flow.Untried.TheVariants as untried
 use Rattle.pages.specs.Events.{Tried, over_in, cancelled_of, handed_out, worked_on, wrong_on}
 use Rattle.pages.specs.declared.flow.Flow.{Flow}
 use Rattle.pages.specs.Page.{damaged, decode_of, encode_of}
-use Rattle.calls.specs.declared.types.Reply.{Reply}
-use Rattle.calls.specs.declared.types.Reply.TheVariants as replies
+use Rattle.calls.specs.declared.types.Response.TheVariants as replies
 use Rattle.wire.specs.declared.Refusal.TheVariants as refusals
-use Rattle.calls.specs.Replies.{reply_bytes, phase_bytes, phase_of}
+use Rattle.calls.specs.Replies.{Reply, reply_bytes, phase_bytes, phase_of}
 use Rattle.device.specs.Lines.{Work, yields}
 use Rattle.device.specs.Does.{Op, Did, d_end, bind}
 use Rattle.device.proofs.Did.{did_bind}

@@ -6,10 +6,9 @@ use Rattle.flows.specs.House.{No as noM, Flow' as flowM, Full' as fullM}
 use Rattle.pages.specs.declared.flow.Flow.{Flow}
 use Rattle.pages.specs.Page.{damaged, encode_of}
 use Rattle.pages.specs.Events.{begun}
-use Rattle.calls.specs.declared.types.Reply.{Reply}
-use Rattle.calls.specs.declared.types.Reply.TheVariants as replies
+use Rattle.calls.specs.declared.types.Response.TheVariants as replies
 use Rattle.wire.specs.declared.Refusal.TheVariants as refusals
-use Rattle.calls.specs.Replies.{reply_bytes}
+use Rattle.calls.specs.Replies.{Reply, reply_bytes}
 use Rattle.device.specs.Does.{Op, Did, d_end, bind}
 use Rattle.device.proofs.Did.{did_bind}
 use Rattle.store.specs.Layout.{next_of, pick_of, turn_at, id_at, blocks_for, Mind, flipped_to}

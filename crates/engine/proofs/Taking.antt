@@ -6,9 +6,8 @@ use Rattle.pages.specs.declared.flow.Flow.{Flow}
 use Rattle.pages.specs.declared.flow.Task.{Task}
 use Rattle.pages.specs.Page.{damaged}
 use Rattle.pages.specs.Events.{handed_out}
-use Rattle.calls.specs.declared.types.Reply.{Reply}
-use Rattle.calls.specs.declared.types.Reply.TheVariants as replies
-use Rattle.calls.specs.Replies.{reply_bytes}
+use Rattle.calls.specs.declared.types.Response.TheVariants as replies
+use Rattle.calls.specs.Replies.{Reply, reply_bytes}
 use Rattle.device.specs.Lines.{yields}
 use Rattle.device.specs.Does.{Op, Did, d_end, bind, loop_from}
 use Rattle.device.proofs.Did.{did_bind}

@@ -6,7 +6,7 @@ use Rattle.flows.specs.House.{No as noM, Yes as yesM}
 use Rattle.pages.specs.declared.flow.Flow.{Flow}
 use Rattle.pages.specs.Page.{damaged, encode_of}
 use Rattle.pages.specs.Events.{ticked_on, stirring}
-use Rattle.calls.specs.declared.types.Reply.TheVariants as replies
+use Rattle.calls.specs.declared.types.Response.TheVariants as replies
 use Rattle.device.specs.Lines.{yields}
 use Rattle.device.specs.Does.{Op, Did, d_end, bind, loop_from}
 use Rattle.device.proofs.Did.{did_bind}

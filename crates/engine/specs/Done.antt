@@ -1,13 +1,12 @@
 -- What the code of a call does. Assumes nothing.
 use Rattle.std.specs.Prelude.{◌≡◌, ℕ, ◌-◌, ◌%◌, List, [], ◌∷◌, Ok, Err, Result}
 use Rattle.flows.specs.House.{Reply as Meant}
-use Rattle.calls.specs.declared.types.Reply.{Reply}
 use Rattle.plans.specs.declared.eval.Damaged.{Damaged}
 use Rattle.wire.specs.declared.Refusal.{Refusal}
 use Rattle.wire.specs.declared.Refusal.TheVariants.{NotFound, NotOut as NotTriedOut}
 use Rattle.pages.specs.declared.flow.Untried.{Untried}
 use Rattle.pages.specs.declared.flow.Untried.TheVariants.{NoTask, NotOut}
-use Rattle.calls.specs.Replies.{reply_bytes, bytes_of}
+use Rattle.calls.specs.Replies.{Reply, reply_bytes, bytes_of}
 use Rattle.device.specs.Lines.{Work}
 use Rattle.device.specs.Does.{Op, Did}
 use Rattle.store.specs.Layout.{Mind}

@@ -1,5 +1,5 @@
 // What the house holds in memory that does not last, and a slot's flow opened and shut.
-ghost use Rattle.std.specs.Prelude.{◌≡◌, ℕ, ◌-◌, ◌%◌};
+ghost use Rattle.std.specs.Prelude.{◌≡◌, ℕ, ◌-◌, ◌%◌, ◌≤◌};
 ghost use Rattle.device.specs.Does.{Did};
 ghost use Rattle.store.specs.Layout.{turn_at};
 ghost use Rattle.engine.specs.Works.{open_work, shut_work};
@@ -20,9 +20,19 @@ use store::slot::Slot;
 #[derive(Clone, Copy)]
 pub struct Held {
     // 0 if none was told, as in the meaning, where no time is 0
-    pub time: Time,
+    pub time: u64,
     pub word: u64,
     pub root: [u64; 40],
+}
+
+impl Held {
+    // The time that a flow's run is told.
+    pub(crate) fn now(&self) -> Time
+        requires clock { self.now.time ≤ 4611686018427387904 }
+        ensures { result ≡ self.now.time }
+    {
+        Time::new(self.time).unwrap()
+    }
 }
 
 // The flow of a slot.

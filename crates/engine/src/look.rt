@@ -17,7 +17,7 @@ use pages::look::{cancelled, handed, is_over, tried};
 use plans::eval::Damaged;
 use runs::step::Phase;
 use runs::time::Time;
-use store::dir::Dir;
+use store::dir::{Dir, Entries};
 use store::keep::Memory;
 use store::root::turn_used;
 use store::slot::Slot;
@@ -92,6 +92,7 @@ fn forget_flow<D: Device>(
 ) -> Reply
     ensures done { Done D.step (forget_flow (mind_of (D.size memory.old.dev) held.old dir.now) slot flow) memory.old.dev (Ok result) (mind_of (D.size memory.old.dev) held.new dir.now) memory.new.dev }
     ensures stays { D.size memory.new.dev ≡ D.size memory.old.dev }
+    ensures time { held.new.time ≡ held.old.time }
 {
     if !is_over(flow.place.phase) {
         return Reply::No(Refusal::WrongPhase);
@@ -110,6 +111,7 @@ pub fn forget<D: Device>(
 ) -> Result<Reply, Damaged>
     ensures done { Done D.step (at_slot (mind_of (D.size memory.old.dev) held.old dir.now) (forget_flow (mind_of (D.size memory.old.dev) held.old dir.now)) (key_slot (mind_of (D.size memory.old.dev) held.old dir.now) key.now)) memory.old.dev result (mind_of (D.size memory.old.dev) held.new dir.now) memory.new.dev }
     ensures stays { D.size memory.new.dev ≡ D.size memory.old.dev }
+    ensures time { held.new.time ≡ held.old.time }
 {
     let Some(slot) = dir.find_key(&held.root, key) else {
         return Ok(Reply::No(Refusal::NotFound));
@@ -127,6 +129,7 @@ fn cancel_flow<D: Device>(
 ) -> Reply
     ensures done { Done D.step (cancel_flow (mind_of (D.size memory.old.dev) held.old dir.now) slot flow) memory.old.dev (Ok result) (mind_of (D.size memory.old.dev) held.new dir.now) memory.new.dev }
     ensures stays { D.size memory.new.dev ≡ D.size memory.old.dev }
+    ensures time { held.new.time ≡ held.old.time }
 {
     if is_over(flow.place.phase) {
         return Reply::No(Refusal::WrongPhase);
@@ -143,6 +146,7 @@ pub fn cancel<D: Device>(
 ) -> Result<Reply, Damaged>
     ensures done { Done D.step (at_slot (mind_of (D.size memory.old.dev) held.old dir.now) (cancel_flow (mind_of (D.size memory.old.dev) held.old dir.now)) (key_slot (mind_of (D.size memory.old.dev) held.old dir.now) key.now)) memory.old.dev result (mind_of (D.size memory.old.dev) held.new dir.now) memory.new.dev }
     ensures stays { D.size memory.new.dev ≡ D.size memory.old.dev }
+    ensures time { held.new.time ≡ held.old.time }
 {
     let Some(slot) = dir.find_key(&held.root, key) else {
         return Ok(Reply::No(Refusal::NotFound));
@@ -161,13 +165,15 @@ fn longer_flow<D: Device>(
     try_out: Try,
     ms: u32,
 ) -> Reply
+    requires clock { held.old.time ≤ 4611686018427387904 }
     ensures done { Done D.step (longer_flow try_out.step try_out.attempt ms (mind_of (D.size memory.old.dev) held.old dir.now) slot flow) memory.old.dev (Ok result) (mind_of (D.size memory.old.dev) held.new dir.now) memory.new.dev }
     ensures stays { D.size memory.new.dev ≡ D.size memory.old.dev }
+    ensures time { held.new.time ≡ held.old.time }
 {
     match tried(&flow, try_out.step, try_out.attempt) {
         Err(why) => Reply::No(refusal(why)),
         Ok(()) => {
-            let until = held.time.ms() + u64::from(ms);
+            let until = held.time + u64::from(ms);
             shut(memory, held, dir, slot, &handed(flow, until));
             Reply::Yes
         }
@@ -182,8 +188,10 @@ pub fn longer<D: Device>(
     try_out: Try,
     ms: u32,
 ) -> Result<Reply, Damaged>
+    requires clock { held.old.time ≤ 4611686018427387904 }
     ensures done { Done D.step (at_slot (mind_of (D.size memory.old.dev) held.old dir.now) (longer_flow try_out.step try_out.attempt ms (mind_of (D.size memory.old.dev) held.old dir.now)) (id_slot (mind_of (D.size memory.old.dev) held.old dir.now) id)) memory.old.dev result (mind_of (D.size memory.old.dev) held.new dir.now) memory.new.dev }
     ensures stays { D.size memory.new.dev ≡ D.size memory.old.dev }
+    ensures time { held.new.time ≡ held.old.time }
 {
     let Some(slot) = dir.find_id(&held.root, id) else {
         return Ok(Reply::No(Refusal::NotFound));
@@ -219,13 +227,15 @@ fn report_plan<D: Device>(
     flow: Flow,
     end: Option<u64>,
 ) -> Result<Reply, Damaged>
+    requires clock { held.old.time ≤ 4611686018427387904 }
     ensures done { Done D.step (bind (load_plan (D.size memory.old.dev) dir.now slot) (report_plan (is_some end) (unwrap_or end 0) (mind_of (D.size memory.old.dev) held.old dir.now) slot flow)) memory.old.dev result (mind_of (D.size memory.old.dev) held.new dir.now) memory.new.dev }
     ensures stays { D.size memory.new.dev ≡ D.size memory.old.dev }
+    ensures time { held.new.time ≡ held.old.time }
 {
     let size = dir.size_at(slot);
     let words = &mut plan[0..4 * size];
     memory.load_plan(dir, slot, words);
-    let flow = tried_out(words, flow, end, held.time, stack)?;
+    let flow = tried_out(words, flow, end, held.now(), stack)?;
     shut(memory, held, dir, slot, &flow);
     Ok(Reply::Yes)
 }
@@ -241,8 +251,10 @@ fn report_flow<D: Device>(
     try_out: Try,
     end: Option<u64>,
 ) -> Result<Reply, Damaged>
+    requires clock { held.old.time ≤ 4611686018427387904 }
     ensures done { Done D.step (report_flow try_out.step try_out.attempt (is_some end) (unwrap_or end 0) (mind_of (D.size memory.old.dev) held.old dir.now) slot flow) memory.old.dev result (mind_of (D.size memory.old.dev) held.new dir.now) memory.new.dev }
     ensures stays { D.size memory.new.dev ≡ D.size memory.old.dev }
+    ensures time { held.new.time ≡ held.old.time }
 {
     match tried(&flow, try_out.step, try_out.attempt) {
         Err(why) => Ok(Reply::No(refusal(why))),
@@ -261,8 +273,10 @@ pub fn report<D: Device>(
     try_out: Try,
     end: Option<u64>,
 ) -> Result<Reply, Damaged>
+    requires clock { held.old.time ≤ 4611686018427387904 }
     ensures done { Done D.step (at_slot (mind_of (D.size memory.old.dev) held.old dir.now) (report_flow try_out.step try_out.attempt (is_some end) (unwrap_or end 0) (mind_of (D.size memory.old.dev) held.old dir.now)) (id_slot (mind_of (D.size memory.old.dev) held.old dir.now) id)) memory.old.dev result (mind_of (D.size memory.old.dev) held.new dir.now) memory.new.dev }
     ensures stays { D.size memory.new.dev ≡ D.size memory.old.dev }
+    ensures time { held.new.time ≡ held.old.time }
 {
     let Some(slot) = dir.find_id(&held.root, id) else {
         return Ok(Reply::No(Refusal::NotFound));

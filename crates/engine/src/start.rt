@@ -17,7 +17,7 @@ use pages::event::begin;
 use pages::flow::Flow;
 use pages::page::encode;
 use plans::eval::Damaged;
-use store::dir::{Dir, free_slot};
+use store::dir::{Dir, Entries, free_slot};
 use store::entry::{bump, entry_of};
 use store::keep::Memory;
 use store::room::{blocks_for, choose, mark};
@@ -81,6 +81,7 @@ fn born<D: Device>(
     requires low { next_of held.old.root < 4611686018427387904 }
     ensures done { Done D.step (born_work (mind_of (D.size memory.old.dev) held.old dir.old) slot (entry_of (next_of held.old.root) (length new.now.plan.now / 4) new.now.key.now blocks.now) (put_entry slot (entry_of (next_of held.old.root) (length new.now.plan.now / 4) new.now.key.now blocks.now) dir.old) (bumped (turn_at 1 slot held.old.root)) new.now.plan.now flow.now) memory.old.dev (Ok result) (mind_of (D.size memory.old.dev) held.new dir.new) memory.new.dev }
     ensures stays { D.size memory.new.dev ≡ D.size memory.old.dev }
+    ensures time { held.new.time ≡ held.old.time }
 {
     let id = held.root[0] + 1;
     let entry = entry_of(id, (new.plan.len() / 4) as u64, new.key, blocks);
@@ -102,11 +103,13 @@ fn start_blocks<D: Device>(
     slot: Slot,
     blocks: &[u64; 18],
 ) -> Result<Reply, Damaged>
+    requires clock { held.old.time ≤ 4611686018427387904 }
     requires low { next_of held.old.root < 4611686018427387904 }
     ensures done { Done D.step (start_blocks new.now.key.now (length new.now.plan.now / 4) new.now.plan.now new.now.words.now (mind_of (D.size memory.old.dev) held.old dir.old) slot blocks.now) memory.old.dev result (mind_of (D.size memory.old.dev) held.new dir.new) memory.new.dev }
     ensures stays { D.size memory.new.dev ≡ D.size memory.old.dev }
+    ensures time { held.new.time ≡ held.old.time }
 {
-    let flow = begin(new.plan, new.words, held.time, stack)?;
+    let flow = begin(new.plan, new.words, held.now(), stack)?;
     Ok(born(memory, held, dir, new, slot, blocks, &flow))
 }
 
@@ -153,8 +156,10 @@ fn start_free<D: Device>(
     marks: &mut [u64; 18432],
     slot: Slot,
 ) -> Result<Reply, Damaged>
+    requires clock { held.old.time ≤ 4611686018427387904 }
     ensures done { Done D.step (start_free new.now.key.now (length new.now.plan.now / 4) new.now.plan.now new.now.words.now (mind_of (D.size memory.old.dev) held.old dir.old) slot) memory.old.dev result (mind_of (D.size memory.old.dev) held.new dir.new) memory.new.dev }
     ensures stays { D.size memory.new.dev ≡ D.size memory.old.dev }
+    ensures time { held.new.time ≡ held.old.time }
 {
     if is_spent(&held.root) {
         return Ok(Reply::No(Refusal::NoMore));
@@ -179,8 +184,10 @@ pub fn start<D: Device>(
     stack: &mut [u64; 4096],
     marks: &mut [u64; 18432],
 ) -> Result<Reply, Damaged>
+    requires clock { held.old.time ≤ 4611686018427387904 }
     ensures done { Done D.step (start_work new.now.key.now (length new.now.plan.now / 4) new.now.plan.now new.now.words.now (mind_of (D.size memory.old.dev) held.old dir.old)) memory.old.dev result (mind_of (D.size memory.old.dev) held.new dir.new) memory.new.dev }
     ensures stays { D.size memory.new.dev ≡ D.size memory.old.dev }
+    ensures time { held.new.time ≡ held.old.time }
 {
     if let Some(slot) = dir.find_key(&held.root, new.key) {
         return Ok(Reply::Flow(FlowId(dir.id_at(slot))));

@@ -1,5 +1,5 @@
 // A worker takes the task that is due first, then by flow.
-ghost use Rattle.std.specs.Prelude.{◌≡◌, ℕ, ◌&&◌, ◌||◌, [], None, Ok, ◌==◌, nat_lt};
+ghost use Rattle.std.specs.Prelude.{◌≡◌, ℕ, ◌&&◌, ◌||◌, ◌≤◌, [], None, Ok, ◌==◌, nat_lt};
 ghost use Rattle.device.specs.Does.{Did, loop_from};
 ghost use Rattle.engine.specs.Works.{better as betterOf, look_flow, look_turn, hand_flow, at_flow, take_work};
 ghost use Rattle.engine.specs.Done.{mind_of, Done};
@@ -10,8 +10,7 @@ use device::Device;
 use pages::flow::Flow;
 use pages::look::{due_at, handed, is_wanted, step_of};
 use plans::eval::Damaged;
-use runs::time::Time;
-use store::dir::Dir;
+use store::dir::{Dir, Entries};
 use store::keep::Memory;
 use store::root::is_used;
 use store::slot::{SLOTS, Slot};
@@ -51,7 +50,7 @@ fn better(slot: Slot, due: u64, flow: u64, best: Option<Best>) -> Option<Best>
 
 // One more flow is looked at.
 fn look_flow(
-    time: Time,
+    time: u64,
     dir: &Dir,
     kinds: &[u64],
     slot: Slot,
@@ -60,7 +59,7 @@ fn look_flow(
 ) -> Option<Best>
     ensures { result ≡ look_flow kinds.now (record { lines = 0; now = time; word = 0; page = []; dir = dir.now }) slot best flow.now }
 {
-    if !is_wanted(flow, time.ms(), kinds) {
+    if !is_wanted(flow, time, kinds) {
         return best;
     }
     better(slot, due_at(flow), dir.id_at(slot), best)
@@ -106,8 +105,10 @@ fn hand_flow<D: Device>(
     flow: Flow,
     ms: u32,
 ) -> Result<Reply, Damaged>
+    requires clock { held.old.time ≤ 4611686018427387904 }
     ensures done { Done D.step (hand_flow ms (mind_of (D.size memory.old.dev) held.old dir.now) slot flow) memory.old.dev result (mind_of (D.size memory.old.dev) held.new dir.now) memory.new.dev }
     ensures stays { D.size memory.new.dev ≡ D.size memory.old.dev }
+    ensures time { held.new.time ≡ held.old.time }
 {
     let Some(task) = flow.task else {
         return Err(Damaged);
@@ -121,7 +122,7 @@ fn hand_flow<D: Device>(
         args,
         count: task.count,
     };
-    let until = held.time.ms() + u64::from(ms);
+    let until = held.time + u64::from(ms);
     shut(memory, held, dir, slot, &handed(flow, until));
     Ok(Reply::Job(job))
 }
@@ -134,8 +135,10 @@ fn hand<D: Device>(
     slot: Slot,
     ms: u32,
 ) -> Result<Reply, Damaged>
+    requires clock { held.old.time ≤ 4611686018427387904 }
     ensures done { Done D.step (at_flow (mind_of (D.size memory.old.dev) held.old dir.now) (hand_flow ms (mind_of (D.size memory.old.dev) held.old dir.now)) slot) memory.old.dev result (mind_of (D.size memory.old.dev) held.new dir.now) memory.new.dev }
     ensures stays { D.size memory.new.dev ≡ D.size memory.old.dev }
+    ensures time { held.new.time ≡ held.old.time }
 {
     let flow = open(memory, held, dir, slot)?;
     hand_flow(memory, held, dir, slot, flow, ms)
@@ -148,8 +151,10 @@ pub fn take<D: Device>(
     kinds: &[u64],
     ms: u32,
 ) -> Result<Reply, Damaged>
+    requires clock { held.old.time ≤ 4611686018427387904 }
     ensures done { Done D.step (take_work kinds.now ms (mind_of (D.size memory.old.dev) held.old dir.now)) memory.old.dev result (mind_of (D.size memory.old.dev) held.new dir.now) memory.new.dev }
     ensures stays { D.size memory.new.dev ≡ D.size memory.old.dev }
+    ensures time { held.new.time ≡ held.old.time }
 {
     match look(memory, held, dir, kinds)? {
         Some(best) => hand(memory, held, dir, best.slot, ms),

@@ -1,5 +1,5 @@
 // Time is told: each flow that stirs goes on, and one flip makes all of it count.
-ghost use Rattle.std.specs.Prelude.{◌≡◌, ℕ, None, Ok};
+ghost use Rattle.std.specs.Prelude.{◌≡◌, ℕ, ◌≤◌, None, Ok};
 ghost use Rattle.device.specs.Does.{Did, bind, loop_from};
 ghost use Rattle.store.specs.Works.{load_plan};
 ghost use Rattle.engine.specs.Works.{tick_save, tick_plan, tick_flow, tick_turn, tick_work};
@@ -14,7 +14,7 @@ use pages::look::stirs;
 use pages::page::encode;
 use plans::eval::Damaged;
 use runs::time::Time;
-use store::dir::Dir;
+use store::dir::{Dir, Entries};
 use store::keep::Memory;
 use store::root::{is_used, pick, turn_pick};
 use store::slot::{SLOTS, Slot};
@@ -134,9 +134,10 @@ pub fn tick<D: Device>(
 ) -> Result<Reply, Damaged>
     ensures done { Done D.step (tick_work time (mind_of (D.size memory.old.dev) held.old dir.now)) memory.old.dev result (mind_of (D.size memory.old.dev) held.new dir.now) memory.new.dev }
     ensures stays { D.size memory.new.dev ≡ D.size memory.old.dev }
+    ensures clock { held.old.time ≤ 4611686018427387904 → held.new.time ≤ 4611686018427387904 }
 {
     let changed = tick_all(memory, held, dir, plan, stack, time)?;
-    held.time = time;
+    held.time = time.ms();
     if let Some(page) = changed {
         memory.commit(held.word, &page);
         held.word = 1 - held.word % 2;

@@ -2,7 +2,7 @@
 use Rattle.std.proofs.Common.{◌≡◌, ℕ, Bool, true, false, cond, ◌&&◌, ◌||◌, eqb, List, [], ◌∷◌, Some, None, Option, sym, refl, ap, ◌∙◌, subst, ap₂, arith}
 use Rattle.std.proofs.lemmas.Bool.{eq-eqb}
 use Rattle.plans.specs.Plan.{Failed as failed_p, ends}
-use Rattle.flows.specs.House.{Task as Job, Out as out_job, stands_as as stands_job, some, find, is_task, is_out, is_over, is_due, wanted, due_at}
+use Rattle.flows.specs.House.{Task as Job, Out as out_job, step_of, stands_as as stands_job, some, find, is_task, is_out, is_over, is_due, wanted, due_at}
 use Rattle.flows.specs.One.{One}
 use Rattle.flows.specs.Summed.{stands_one, cancels_one}
 use Rattle.runs.specs.declared.step.Phase.{Phase}
@@ -18,7 +18,7 @@ use Rattle.pages.specs.declared.flow.Task.{Task}
 use Rattle.pages.specs.declared.flow.Flow.{Flow}
 use Rattle.pages.specs.Sound.{TaskOk, Agree}
 use Rattle.pages.specs.Events.{stands_as, out_task, handed_out, due_for, one_of, wanted_task, due_since, due_task, step_in, out_now, tried_task, tried_no_task, tried_not_out, tried_out, over_in, cancelled_of}
-use Rattle.pages.specs.Holds.{standing_of, job_of, jobs_of, Holds, HandedAs, WantedAs, DueAs, tried_in, TriedAs, OverAs, CancelledAs}
+use Rattle.pages.specs.Holds.{standing_of, job_of, jobs_of, Holds, HandedAs, WantedAs, DueAs, StepAs, tried_in, TriedAs, OverAs, CancelledAs}
 use Rattle.pages.proofs.Codes.{agreed_task}
 use Rattle.pages.proofs.Held.{phase_is}
 use Rattle.pages.proofs.Means.{pair, holds_as, held_pair, tasked_of, change_one}
@@ -149,6 +149,16 @@ tried_held s a f room ws y o h = go f.task ∙ ap (λ (l : List Job). tried_in a
     go : (m : Option Task) → tried_task s a (step_in f.place.phase) m ≡ tried_in a (find (is_task y.id s) (jobs_of y.id (step_in f.place.phase) m))
     go None = refl
     go (Some u) = tried_is a y.id s (step_in f.place.phase) u
+
+-- its step
+pub step_held : (p : Phase) → StepAs p (step_in p)
+unfolding step_of phase_in
+step_held Busy ws = refl
+step_held (Tasked s) ws = refl
+step_held (Asleep u) ws = refl
+step_held (Listens v w n u) ws = refl
+step_held (Ended v) ws = refl
+step_held Failed ws = refl
 
 -- over
 pub over_held : (p : Phase) → OverAs p (over_in p)

@@ -3,7 +3,7 @@ use Rattle.std.specs.Prelude.{◌≡◌, ℕ, ◌<◌, ◌≤◌, Bool, true, fa
 use Rattle.plans.specs.declared.eval.Damaged.{Damaged}
 use Rattle.plans.specs.Plan.{Flow as Meant, Block, Rest, Busy as busy_p, block_ok, size_of}
 use Rattle.plans.specs.Flat.{laid}
-use Rattle.flows.specs.House.{Task as Job, Standing as Stands, Due as due_job, Out as out_job, given, find, is_task, the_same, is_over, wanted, due_at}
+use Rattle.flows.specs.House.{Task as Job, Standing as Stands, Due as due_job, Out as out_job, step_of, given, find, is_task, the_same, is_over, wanted, due_at}
 use Rattle.flows.specs.One.{One, with_task, moved_one, works_one, wrong_one, ticked_one}
 use Rattle.flows.specs.Summed.{stands_one, cancels_one}
 use Rattle.runs.specs.declared.step.Phase.{Phase}
@@ -98,6 +98,9 @@ WantedAs t ks f r = (room : ℕ) (ws : List ℕ) (y : FlatFlow) (o : One) → Ho
 
 abbrev pub DueAs : Flow → ℕ → Type 0
 DueAs f r = (room : ℕ) (ws : List ℕ) (u : Job) (y : FlatFlow) (o : One) → o.task ≡ u ∷ [] → Holds room ws f y o → r ≡ due_at u.standing
+
+abbrev pub StepAs : Phase → ℕ → Type 0
+StepAs p r = (ws : List ℕ) → r ≡ step_of (phase_in ws p)
 
 abbrev pub tried_in : (attempt : ℕ) → List Job → Tried
 tried_in a [] = tried_no_task

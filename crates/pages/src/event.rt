@@ -8,7 +8,7 @@ use crate::flow::{Flow, Standing, Task};
 use crate::look::is_late;
 use crate::page::is_fair;
 use plans::eval::Damaged;
-use runs::event::{heard, task_done, task_failed, woken};
+use runs::event::{hearing_over, task_done, task_failed, woken};
 use runs::flow::run;
 use runs::step::{Phase, Place, Wish, first_args};
 use runs::time::Time;
@@ -156,7 +156,7 @@ fn wakes(plan: &[u64], flow: Flow, time: Time, stack: &mut [u64]) -> Result<Flow
                 return Err(Damaged);
             }
             let mut vars = flow.vars;
-            let place = heard(flow.place, var, came, None, &mut vars);
+            let place = hearing_over(flow.place, var, came, None, &mut vars);
             goes_on(plan, place, vars, time, stack)
         }
         Phase::Ended { .. } => Ok(flow),

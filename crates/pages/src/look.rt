@@ -1,7 +1,7 @@
 // What is asked of a flow with its task, and what changes it without its plan.
 ghost use Rattle.std.specs.Prelude.{◌≡◌};
 ghost use Rattle.pages.specs.Events.{late_task, stirs_at, stirring, handed_out, one_of, wanted_task, due_task, step_in, tried_task, over_in, cancelled_of};
-ghost use Rattle.pages.specs.Holds.{StaysAs, HandedAs, WantedAs, DueAs, TriedAs, OverAs, CancelledAs};
+ghost use Rattle.pages.specs.Holds.{StaysAs, HandedAs, WantedAs, DueAs, StepAs, TriedAs, OverAs, CancelledAs};
 
 use crate::flow::{Flow, Standing, Task, Untried};
 use runs::step::Phase;
@@ -87,7 +87,8 @@ pub fn due_at(flow: &Flow) -> u64
 
 // The step that a flow waits for; 0 for one that waits for none, as in the meaning.
 pub fn step_of(phase: Phase) -> u64
-    ensures { result ≡ step_in phase }
+    ensures flat { result ≡ step_in phase }
+    ensures meant { StepAs phase result }
 {
     match phase {
         Phase::Tasked { step } => step,

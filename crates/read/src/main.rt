@@ -10,12 +10,18 @@ use std::{env, fs, io};
 use tidy::{Place, TidyError, place_of, tidy};
 use wording::Wording;
 
-// Reads to the end, or to more bytes than a plan may have: all that is longer is none, and the line of its first byte too many is shown.
-fn read_input<R: Read + Drop>(heap: Global, input: R) -> io::Result<Vec<u8>> {
+// Reads to the end, or to more bytes than a plan may have: all that is longer is none. It is read part after part, so that nothing behind
+// those bytes is waited for.
+fn read_input<R: Read + Drop>(heap: Global, mut input: R) -> io::Result<Vec<u8>> {
     let mut text = Vec::new(heap);
-    input
-        .take(LONGEST_TEXT as u64 + 4096)
-        .read_to_end(&mut text)?;
+    let mut part = [0; 4096];
+    for _ in 0..=LONGEST_TEXT {
+        let count = input.read(&mut part)?.min(part.len());
+        text.extend_from_slice(&part[..count])?;
+        if count == 0 || text.len() > LONGEST_TEXT {
+            break;
+        }
+    }
     Ok(text)
 }
 

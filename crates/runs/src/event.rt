@@ -74,13 +74,36 @@ pub fn task_done(
     Ok(goes(place, task.next))
 }
 
+// The hearing is over: one of its variables gets this value, and the other whether a word came.
+pub fn heard(
+    place: Place,
+    var: u64,
+    flag: u64,
+    value: u64,
+    came: u64,
+    vars: &mut [u64; 64],
+) -> Place
+    requires { (var < 64) × (flag < 64) }
+    ensures flat { (result ≡ gone_to place.here place) × (vars.new ≡ set_at (set_at vars.old var value) flag came) }
+    ensures meant { (room : ℕ) (ws : List ℕ) (x : Meant) (y : FlatFlow) → is_calm (phase_in ws place.phase) ≡ true → Is (code_in room ws) (flow_in ws place vars.old y) x → Is (code_in room ws) (flow_in ws result vars.new y) (hearing var flag value came x.box x.frames x) }
+{
+    vars[var as usize] = value;
+    vars[flag as usize] = came;
+    goes(place, place.here as u64)
+}
+
 // The word that it waited for has come, with this value; or, with none, its time is over: then both variables are 0.
-pub fn heard(place: Place, var: u64, flag: u64, word: Option<u64>, vars: &mut [u64; 64]) -> Place
+pub fn hearing_over(
+    place: Place,
+    var: u64,
+    flag: u64,
+    word: Option<u64>,
+    vars: &mut [u64; 64],
+) -> Place
     requires { (var < 64) × (flag < 64) }
     ensures flat { (result ≡ gone_to place.here place) × (vars.new ≡ set_at (set_at vars.old var (worth word)) flag (came word)) }
     ensures meant { (room : ℕ) (ws : List ℕ) (x : Meant) (y : FlatFlow) → is_calm (phase_in ws place.phase) ≡ true → Is (code_in room ws) (flow_in ws place vars.old y) x → Is (code_in room ws) (flow_in ws result vars.new y) (hearing var flag (worth word) (came word) x.box x.frames x) }
 {
-    vars[var as usize] = word.unwrap_or(0);
-    vars[flag as usize] = u64::from(word.is_some());
-    goes(place, place.here as u64)
+    let came = u64::from(word.is_some());
+    heard(place, var, flag, word.unwrap_or(0), came, vars)
 }

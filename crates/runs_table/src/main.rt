@@ -7,7 +7,7 @@ use anyhow::{Context, anyhow};
 use plans::kinds::MOST_WORDS;
 use plans::sheet::Slate;
 use reading::read;
-use runs::event::{heard, task_done, woken};
+use runs::event::{hearing_over, task_done, woken};
 use runs::flow::{Ran, run};
 use runs::step::{Phase, Place, Wish};
 use runs::time::Time;
@@ -54,7 +54,7 @@ fn turn(
     stack: &mut [u64],
 ) -> anyhow::Result<Done> {
     let now = Time::new(time).context("a run can't be made")?;
-    let ran = run(words, place, now, vars, stack).context("damaged words")?;
+    let ran = run(words, place, now, vars, stack).map_err(|_| anyhow!("damaged words"))?;
     after(words, ran, time, vars)
 }
 
@@ -72,7 +72,8 @@ fn after(words: &[u64], ran: Ran, time: u64, vars: &mut [u64; 64]) -> anyhow::Re
             if place.into >= 64 {
                 return Err(anyhow!("a result with no variable"));
             }
-            let next = task_done(words, place, result_of(wish), vars).context("damaged words")?;
+            let done = task_done(words, place, result_of(wish), vars);
+            let next = done.map_err(|_| anyhow!("damaged words"))?;
             Ok(Done {
                 ran,
                 next: Some(next),
@@ -95,7 +96,7 @@ fn after(words: &[u64], ran: Ran, time: u64, vars: &mut [u64; 64]) -> anyhow::Re
             }
             Ok(Done {
                 ran,
-                next: Some(heard(place, var, came, None, vars)),
+                next: Some(hearing_over(place, var, came, None, vars)),
                 time: until,
             })
         }
@@ -134,7 +135,7 @@ fn carried(
 fn case(heap: Global, name: &str, text: &[u8]) -> anyhow::Result<String> {
     let mut draft = vec![in heap; 0u64; MOST_WORDS]?;
     let mut slate = Slate::new(heap, MOST_WORDS)?;
-    read(text, &mut draft, &mut slate).context("no plan")?;
+    read(text, &mut draft, &mut slate).map_err(|_| anyhow!("no plan"))?;
     let mut vars = [0; 64];
     let mut stack = vec![in heap; 0u64; 4096]?;
     carried(heap, name, slate.as_slice(), &mut vars, &mut stack)

@@ -7,7 +7,6 @@ ghost use Rattle.store.specs.Finds.{first_slot, by_id, by_key, is_free, weighs, 
 
 use crate::root::is_used;
 use crate::slot::{PageCopy, SLOTS, Slot};
-use std::marker::Model;
 
 pub const ENTRY_WORDS: usize = 96;
 
@@ -26,18 +25,56 @@ pub const KEY: usize = 32;
 
 pub const MOST_SIZE: usize = 4096;
 
-// The words of the directory, an entry for each slot.
-#[derive(Drop)]
-pub struct Dir {
-    pub words: [u64; 98304],
-}
+// The words of the directory, an entry for each slot. It is no struct, so that words that a caller was lent can be one.
+pub type Dir = [u64; 98304];
 
-impl Model for Dir {
-    ghost Value = { List ℕ };
+// What is read of a directory, and written into it.
+pub trait Entries {
+    // Its words.
+    ghost list: { Self → List ℕ };
 
-    ghost view = { λ d. d.words };
+    fn id_at(&self, slot: Slot) -> u64
+        ensures { result ≡ id_at (list self.now) slot };
 
-    ghost invariant = { λ d. length d.words ≡ 98304 };
+    // At most 4,096, whatever the words are.
+    fn size_at(&self, slot: Slot) -> usize
+        ensures is { result ≡ size_at (list self.now) slot }
+        ensures low { result ≤ 4096 };
+
+    fn block_at(&self, slot: Slot, k: usize) -> u64
+        requires { k < 18 }
+        ensures { result ≡ block_at (list self.now) slot k };
+
+    // A slot's key, a byte in each word.
+    fn key_at(&self, slot: Slot) -> &[u64]
+        ensures { result.now ≡ key_at (list self.now) slot };
+
+    // The block of one of the copies of a slot's page.
+    fn page_blocks(&self, slot: Slot, copy: PageCopy) -> &[u64]
+        ensures is { result.now ≡ page_blocks (list self.now) slot copy }
+        ensures one { length result.now ≡ 1 };
+
+    // The blocks of a slot's plan.
+    fn plan_blocks(&self, slot: Slot) -> &[u64]
+        ensures is { result.now ≡ plan_blocks (list self.now) slot }
+        ensures all { length result.now ≡ 16 };
+
+    // The slot of the flow with this number.
+    fn find_id(&self, root: &[u64; 40], id: u64) -> Option<Slot>
+        ensures { result ≡ first_slot (by_id root.now (list self.now) id) 0 1024 };
+
+    // The slot of the flow with this key.
+    fn find_key(&self, root: &[u64; 40], key: &[u8]) -> Option<Slot>
+        ensures { result ≡ first_slot (by_key root.now (list self.now) key.now) 0 1024 };
+
+    // What the flows in use weigh.
+    fn weight(&self, root: &[u64; 40]) -> u64
+        ensures is { result ≡ weight_over root.now (list self.now) 0 1024 }
+        ensures low { result ≤ 83886080 };
+
+    // The directory shall have this entry for a slot.
+    fn put_entry(&mut self, slot: Slot, words: &[u64; 96])
+        ensures { list self.new ≡ put_entry slot words.now (list self.old) };
 }
 
 // Is this key, of bytes, the one that stands in these words?
@@ -51,101 +88,72 @@ fn same_key(key: &[u8], words: &[u64]) -> bool
             .all(|(byte, word)| u64::from(*byte) == *word)
 }
 
-impl Dir {
-    fn field(&self, slot: Slot, k: usize) -> u64
-        requires { k < 96 }
-        ensures { result ≡ field self.now slot k }
-    {
-        self.words[slot.number() * ENTRY_WORDS + k]
+fn field_at(dir: &Dir, slot: Slot, k: usize) -> u64
+    requires { k < 96 }
+    ensures { result ≡ field dir.now slot k }
+{
+    dir[slot.number() * ENTRY_WORDS + k]
+}
+
+fn weight_at(root: &[u64; 40], dir: &Dir, slot: Slot) -> u64
+    ensures is { result ≡ weighs root.now dir.now slot }
+    ensures low { result ≤ 81920 }
+{
+    if is_used(root, slot) {
+        16384 + 16 * dir.size_at(slot) as u64
+    } else {
+        0
+    }
+}
+
+impl Entries for Dir {
+    ghost list = { λ d. d };
+
+    fn id_at(&self, slot: Slot) -> u64 {
+        field_at(self, slot, ID)
     }
 
-    pub fn id_at(&self, slot: Slot) -> u64
-        ensures { result ≡ id_at self.now slot }
-    {
-        self.field(slot, ID)
+    fn size_at(&self, slot: Slot) -> usize {
+        field_at(self, slot, SIZE).min(4096) as usize
     }
 
-    // At most 4,096, whatever the words are.
-    pub fn size_at(&self, slot: Slot) -> usize
-        ensures is { result ≡ size_at self.now slot }
-        ensures low { result ≤ 4096 }
-    {
-        self.field(slot, SIZE).min(4096) as usize
+    fn block_at(&self, slot: Slot, k: usize) -> u64 {
+        field_at(self, slot, BLOCKS + k)
     }
 
-    pub fn block_at(&self, slot: Slot, k: usize) -> u64
-        requires { k < 18 }
-        ensures { result ≡ block_at self.now slot k }
-    {
-        self.field(slot, BLOCKS + k)
-    }
-
-    // A slot's key, a byte in each word.
-    pub fn key_at(&self, slot: Slot) -> &[u64]
-        ensures { result.now ≡ key_at self.now slot }
-    {
-        let length = self.field(slot, KEY_LENGTH).min(64) as usize;
+    fn key_at(&self, slot: Slot) -> &[u64] {
+        let length = field_at(self, slot, KEY_LENGTH).min(64) as usize;
         let start = slot.number() * ENTRY_WORDS + KEY;
-        &self.words[start..start + length]
+        &self[start..start + length]
     }
 
-    // The block of one of the copies of a slot's page.
-    pub fn page_blocks(&self, slot: Slot, copy: PageCopy) -> &[u64]
-        ensures is { result.now ≡ page_blocks self.now slot copy }
-        ensures one { length result.now ≡ 1 }
-    {
+    fn page_blocks(&self, slot: Slot, copy: PageCopy) -> &[u64] {
         let start = slot.number() * ENTRY_WORDS + BLOCKS + copy.number();
-        &self.words[start..start + 1]
+        &self[start..start + 1]
     }
 
-    // The blocks of a slot's plan.
-    pub fn plan_blocks(&self, slot: Slot) -> &[u64]
-        ensures is { result.now ≡ plan_blocks self.now slot }
-        ensures all { length result.now ≡ 16 }
-    {
+    fn plan_blocks(&self, slot: Slot) -> &[u64] {
         let start = slot.number() * ENTRY_WORDS + BLOCKS + 2;
-        &self.words[start..start + 16]
+        &self[start..start + 16]
     }
 
-    // The slot of the flow with this number.
-    pub fn find_id(&self, root: &[u64; 40], id: u64) -> Option<Slot>
-        ensures { result ≡ first_slot (by_id root.now self.now id) 0 1024 }
-    {
+    fn find_id(&self, root: &[u64; 40], id: u64) -> Option<Slot> {
         first_slot(|slot| is_used(root, slot) && self.id_at(slot) == id)
     }
 
-    // The slot of the flow with this key.
-    pub fn find_key(&self, root: &[u64; 40], key: &[u8]) -> Option<Slot>
-        ensures { result ≡ first_slot (by_key root.now self.now key.now) 0 1024 }
-    {
+    fn find_key(&self, root: &[u64; 40], key: &[u8]) -> Option<Slot> {
         first_slot(|slot| is_used(root, slot) && same_key(key, self.key_at(slot)))
     }
 
-    fn weight_at(&self, root: &[u64; 40], slot: Slot) -> u64
-        ensures is { result ≡ weighs root.now self.now slot }
-        ensures low { result ≤ 81920 }
-    {
-        if is_used(root, slot) {
-            16384 + 16 * self.size_at(slot) as u64
-        } else {
-            0
-        }
+    fn weight(&self, root: &[u64; 40]) -> u64 {
+        (0..SLOTS)
+            .map(|i| weight_at(root, self, Slot::new(i)))
+            .sum()
     }
 
-    // What the flows in use weigh.
-    pub fn weight(&self, root: &[u64; 40]) -> u64
-        ensures is { result ≡ weight_over root.now self.now 0 1024 }
-        ensures low { result ≤ 83886080 }
-    {
-        (0..SLOTS).map(|i| self.weight_at(root, Slot::new(i))).sum()
-    }
-
-    // The directory shall have this entry for a slot.
-    pub fn put_entry(&mut self, slot: Slot, words: &[u64; 96])
-        ensures { self.new ≡ put_entry slot words.now self.old }
-    {
+    fn put_entry(&mut self, slot: Slot, words: &[u64; 96]) {
         let start = slot.number() * ENTRY_WORDS;
-        self.words[start..start + ENTRY_WORDS].copy_from_slice(words);
+        self[start..start + ENTRY_WORDS].copy_from_slice(words);
     }
 }
 

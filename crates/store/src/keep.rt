@@ -4,7 +4,7 @@ ghost use Rattle.device.specs.Does.{Did};
 ghost use Rattle.store.specs.Layout.{Mind, size_at};
 ghost use Rattle.store.specs.Works.{rise_work, load_page, load_plan, save_page, save_entry, save_plan, flip_to};
 
-use crate::dir::Dir;
+use crate::dir::{Dir, Entries};
 use crate::root::pick;
 use crate::slot::{PageCopy, Slot};
 use blocks::{Blocks, blocks_in};
@@ -41,7 +41,7 @@ impl<D: Device> Memory<D> {
     {
         let word = self.dev.load(0, 0);
         load_words(&mut self.dev, 1 + word % 2 * 5, root);
-        load_words(&mut self.dev, 16, &mut dir.words);
+        load_words(&mut self.dev, 16, dir);
         word
     }
 
@@ -109,6 +109,19 @@ impl<D: Device> Memory<D> {
         ensures stays { D.size self.new.dev ≡ D.size self.old.dev }
     {
         commit(&mut self.dev, word, root);
+    }
+}
+
+// Rising in a memory that is lent: it is as large as a house needs, so that there is a `Memory` over it.
+pub fn rise<D: Device>(dev: &mut D, root: &mut [u64; 40], dir: &mut Dir) -> u64
+    requires fits { 32768 ≤ D.size dev.old }
+    requires few { D.size dev.old ≤ 1099511627776 }
+    ensures did { Did D.step (rise_work (D.size dev.old)) dev.old (record { lines = D.size dev.old; now = 0; word = result; page = root.new; dir = dir.new }) dev.new }
+    ensures stays { D.size dev.new ≡ D.size dev.old }
+{
+    match Memory::new(dev) {
+        Some(mut memory) => memory.rise(root, dir),
+        None => 0,
     }
 }
 

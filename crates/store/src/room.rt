@@ -3,7 +3,7 @@ ghost use Rattle.std.specs.Prelude.{◌≡◌, ℕ, ◌+◌, ◌*◌, ◌/◌, �
 ghost use Rattle.store.specs.Layout.{size_at, block_at, blocks_for};
 ghost use Rattle.store.specs.Room.{mark_blocks, mark_slot, marked, zeros_from, chosen, RoomStands};
 
-use crate::dir::Dir;
+use crate::dir::{Dir, Entries};
 use crate::root::is_used;
 use crate::slot::{SLOTS, Slot};
 

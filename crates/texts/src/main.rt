@@ -4,7 +4,7 @@
 
 mod escapes;
 
-use anyhow::{Context, anyhow};
+use anyhow::anyhow;
 use escapes::{escaped, unescaped};
 use plans::kinds::MOST_WORDS;
 use plans::sheet::Slate;
@@ -35,7 +35,7 @@ fn answer(heap: Global, text: &[u8]) -> anyhow::Result<String> {
 // The answer about a text that is a plan.
 fn accepted(heap: Global, size: usize, slate: &Slate) -> anyhow::Result<String> {
     let mut out = Vec::new(heap);
-    print(slate.as_slice(), &mut out).context("a plan was not printed")?;
+    print(slate.as_slice(), &mut out).map_err(|_| anyhow!("a plan was not printed"))?;
     if out.is_empty() || out.len() > SHORT {
         return Ok(format!(in heap; "plan {size}")?);
     }

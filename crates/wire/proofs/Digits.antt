@@ -43,11 +43,11 @@ unfolding bytes_of
 hex_end bs [] o h e = e ∙ ap Some (append-nil bs)
 hex_end bs (x ∷ xs) o h e = absurd (omega arith)
 
-pub odd_none : (bs rest : List ℕ) (o : Option (List ℕ)) → length rest < 2 → (length rest ≡ 0 → ⊥) → o ≡ before bs (bytes_of rest) → o ≡ None
+pub odd_none : (xs : List ℕ) → (length xs % 2 ≡ 0 → ⊥) → bytes_of xs ≡ None
 unfolding bytes_of
-odd_none bs [] o l h e = absurd (h refl)
-odd_none bs (x ∷ []) o l h e = e
-odd_none bs (x ∷ y ∷ ts) o l h e = absurd (omega arith)
+odd_none [] h = absurd (h refl)
+odd_none (x ∷ []) h = refl
+odd_none (x ∷ y ∷ ts) h = ap (pair_of (digit_of x) (digit_of y)) (odd_none ts (λ e. h (omega arith))) ∙ no_low (digit_of x) (digit_of y)
 
 pub frame_is : (xs : List ℕ) → is_in xs ≡ true → bytes_of (take (length xs - 3) (drop 3 xs)) ≡ frame_of xs
 frame_is xs e = ap bytes_of (take_rest xs 3) ∙ ap (λ b. cond b (bytes_of (drop 3 xs)) None) (sym e)

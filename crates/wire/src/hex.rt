@@ -1,5 +1,5 @@
 // Bytes in hexadecimal.
-ghost use Rattle.std.specs.Prelude.{◌≡◌, ◌<◌, IfOk, Some, None, Ok, Err};
+ghost use Rattle.std.specs.Prelude.{◌≡◌, ◌%◌, ◌<◌, length, IfOk, Some, None, Ok, Err};
 ghost use Rattle.wire.specs.Hex.{digit_of, small, bytes_of, letter_of, text_of};
 
 use std::alloc::{AllocError, Global};
@@ -17,10 +17,13 @@ pub fn digit(b: u8) -> Option<u8>
     }
 }
 
-// The bytes that a text is; None where it is none.
+// The bytes that a text is; None where it is none. For a text of odd length, which is none, no memory is asked for.
 pub fn from_hex(heap: Global, text: &[u8]) -> Result<Option<Vec<u8>>, AllocError>
-    ensures { elim result [ Ok o ↦ elim o [ Some v ↦ bytes_of text.now ≡ Some v.items | None ↦ bytes_of text.now ≡ None ] | Err e ↦ Unit {0} ] }
+    ensures { elim result [ Ok o ↦ elim o [ Some v ↦ bytes_of text.now ≡ Some v.items | None ↦ bytes_of text.now ≡ None ] | Err e ↦ length text.now % 2 ≡ 0 ] }
 {
+    if text.len() % 2 != 0 {
+        return Ok(None);
+    }
     let mut bytes = Vec::new(heap);
     let mut rest = text;
     while let Some(([high, low], more)) = rest.split_first_chunk::<2>() {
@@ -30,11 +33,7 @@ pub fn from_hex(heap: Global, text: &[u8]) -> Result<Option<Vec<u8>>, AllocError
         bytes.push(high * 16 + low)?;
         rest = more;
     }
-    if rest.is_empty() {
-        Ok(Some(bytes))
-    } else {
-        Ok(None)
-    }
+    Ok(Some(bytes))
 }
 
 // A digit, in lower case.

@@ -8,7 +8,7 @@ ghost use Rattle.std.specs.Prelude.{◌≡◌, drop, Some, None, Ok, Err};
 ghost use Rattle.wire.specs.Frames.{tag_of, is_call, refusal_of, number_of, frame_of, digits, is_time, Answered};
 
 use bytes::four_at;
-use hex::from_hex;
+pub use hex::{digit, from_hex};
 use std::alloc::{AllocError, Global};
 
 // Why a call is turned away.

@@ -1,13 +1,13 @@
 use Rattle.std.proofs.Common.{◌≡◌, ◌+◌, ◌≤◌, length, refl, sym, ap, ◌∙◌, arith}
 use lib.Seq.{sets}
-use Rattle.calls.specs.Replies.{bytes_of}
+use Rattle.calls.specs.Replies.{bytes_by}
 use Rattle.calls.specs.Lines.{framed}
 use Rattle.calls.proofs.Puts.{wrote_some, line_put, line_size}
 use Rattle.calls.proofs.write.write_line.Goals as goal
 
 pub returns : goal.returns
-returns c =
-    let bs = bytes_of c.args.reply.now in
+returns g c =
+    let bs = bytes_by g.N.Numbered.number c.args.reply.now in
     let size : c.size-size.result ≡ length bs = c.size-size.ensures.is in
     let whole = line_size c.args.tag bs in
     let room : length (framed c.args.tag bs) ≤ length c.args.out.now = omega (arith, whole, size) in

@@ -8,7 +8,7 @@ use Rattle.engine.proofs.look.cancel.Goals as goal
 pub returns-in_default : goal.returns-in_default
 returns-in_default g c =
     let x = mind_of (g.D.Device.size c.args.memory.now.dev) c.args.held.now c.args.dir.now in
-    record { done = at_none g.D.Device.step x (cancel_flow x) (key_slot x c.args.key.now) c.in_default.ensures; stays = refl }
+    record { done = at_none g.D.Device.step x (cancel_flow x) (key_slot x c.args.key.now) c.in_default.ensures; stays = refl; time = refl }
 
 pub returns-in_err-flow : goal.returns-in_err-flow
 returns-in_err-flow g c =
@@ -17,6 +17,7 @@ returns-in_err-flow g c =
     rw q.1 (record {
       done = at_some g.D.Device.step x (cancel_flow x) c.in-Some.slot (key_slot x c.args.key.now) _ x c.in-Some.ensures (flow_lost g.D.Device.step x (cancel_flow x) c.in-Some.slot _ c.in_err-flow.ensures.did);
       stays = c.in_err-flow.ensures.stays;
+      time = refl;
     })
 
 pub returns : goal.returns
@@ -30,4 +31,5 @@ returns g c =
     record {
       done = at_some step x (cancel_flow x) c.in-Some.slot (key_slot x c.args.key.now) _ y c.in-Some.ensures (flow_done step x (cancel_flow x) c.in-Some.slot c.in_ok-flow.flow _ y c.in_ok-flow.ensures.did d);
       stays = c.cancel_flow.ensures.stays ∙ e;
+      time = c.cancel_flow.ensures.time;
     }

@@ -8,7 +8,7 @@ use Rattle.engine.proofs.look.longer.Goals as goal
 pub returns-in_default : goal.returns-in_default
 returns-in_default g c =
     let x = mind_of (g.D.Device.size c.args.memory.now.dev) c.args.held.now c.args.dir.now in
-    record { done = at_none g.D.Device.step x (longer_flow c.args.try_out.step c.args.try_out.attempt c.args.ms x) (id_slot x c.args.id) c.in_default.ensures; stays = refl }
+    record { done = at_none g.D.Device.step x (longer_flow c.args.try_out.step c.args.try_out.attempt c.args.ms x) (id_slot x c.args.id) c.in_default.ensures; stays = refl; time = refl }
 
 pub returns-in_err-flow : goal.returns-in_err-flow
 returns-in_err-flow g c =
@@ -17,6 +17,7 @@ returns-in_err-flow g c =
     rw q.1 (record {
       done = at_some g.D.Device.step x (longer_flow c.args.try_out.step c.args.try_out.attempt c.args.ms x) c.in-Some.slot (id_slot x c.args.id) _ x c.in-Some.ensures (flow_lost g.D.Device.step x (longer_flow c.args.try_out.step c.args.try_out.attempt c.args.ms x) c.in-Some.slot _ c.in_err-flow.ensures.did);
       stays = c.in_err-flow.ensures.stays;
+      time = refl;
     })
 
 pub returns : goal.returns
@@ -30,4 +31,5 @@ returns g c =
     record {
       done = at_some step x (longer_flow c.args.try_out.step c.args.try_out.attempt c.args.ms x) c.in-Some.slot (id_slot x c.args.id) _ y c.in-Some.ensures (flow_done step x (longer_flow c.args.try_out.step c.args.try_out.attempt c.args.ms x) c.in-Some.slot c.in_ok-flow.flow _ y c.in_ok-flow.ensures.did d);
       stays = c.longer_flow.ensures.stays ∙ e;
+      time = c.longer_flow.ensures.time;
     }

@@ -26,4 +26,5 @@ returns g c =
       done = born_all step x i c.pick.result es _ d q c.args.new.now.plan.now c.encode.result c.args.flow.now _ _ c.pick.ensures c.encode.ensures refl
           c.entry_of-entry.ensures c.put_entry.ensures (ap (λ h. mind_of n h d) c.count_in.ensures.held) c.save_entry.ensures.did d2 d3 c.count_in.ensures.did;
       stays = c.count_in.ensures.stays ∙ e3;
+      time = rw c.count_in.ensures.held refl;
     }

@@ -12,6 +12,7 @@ returns-in-Some g c =
     record {
       done = start_known g.D.Device.step x c.args.new.now.key.now (length ws / 4) ws c.args.new.now.words.now c.in-Some.slot _ c.in-Some.ensures (ap (λ v. reply_bytes (Flow' v)) (sym c.id_at.ensures));
       stays = refl;
+      time = refl;
     }
 
 pub returns-in_default-free_slot : goal.returns-in_default-free_slot
@@ -21,6 +22,7 @@ returns-in_default-free_slot g c =
     record {
       done = start_none g.D.Device.step x c.args.new.now.key.now (length ws / 4) ws c.args.new.now.words.now c.in_default.ensures c.in_default-free_slot.ensures;
       stays = refl;
+      time = refl;
     }
 
 pub returns : goal.returns
@@ -30,4 +32,5 @@ returns g c =
     record {
       done = start_free_lem g.D.Device.step x c.args.new.now.key.now (length ws / 4) ws c.args.new.now.words.now c.in-Some-free_slot.slot _ _ c.in_default.ensures c.in-Some-free_slot.ensures c.start_free.ensures.done;
       stays = c.start_free.ensures.stays;
+      time = c.start_free.ensures.time;
     }

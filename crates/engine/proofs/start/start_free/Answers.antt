@@ -13,6 +13,7 @@ returns-then-is_spent g c =
     record {
       done = free_spent g.D.Device.step x c.args.new.now.key.now (length ws / 4) ws c.args.new.now.words.now c.args.slot (sym c.if-is_spent.ensures);
       stays = refl;
+      time = refl;
     }
 
 pub returns-then-is_tight : goal.returns-then-is_tight
@@ -23,6 +24,7 @@ returns-then-is_tight g c =
     record {
       done = free_tight g.D.Device.step x c.args.new.now.key.now (length ws / 4) ws c.args.new.now.words.now c.args.slot (sym c.if-is_spent.ensures) (ap tight (sym c.lines-lines.ensures) ∙ sym c.if-is_tight.ensures);
       stays = refl;
+      time = refl;
     }
 
 pub returns-in_default : goal.returns-in_default
@@ -35,6 +37,7 @@ returns-in_default g c =
       done = free_done step x c.args.new.now.key.now (length ws / 4) ws c.args.new.now.words.now c.args.slot None _ x (sym c.if-is_spent.ensures) (ap tight (sym c.lines-lines.ensures) ∙ sym c.if-is_tight.ensures) (c.in_default.ensures ∙ ap (λ m. chosen (blocks_for (length ws / 4)) (marked x.page x.dir (looked_at m))) c.lines-lines.ensures)
           (no_blocks step x c.args.new.now.key.now (length ws / 4) ws c.args.new.now.words.now c.args.slot);
       stays = refl;
+      time = refl;
     }
 
 pub returns : goal.returns
@@ -47,4 +50,5 @@ returns g c =
       done = free_done step x c.args.new.now.key.now (length ws / 4) ws c.args.new.now.words.now c.args.slot (Some c.in-Some.blocks) _ _ (sym c.if-is_spent.ensures) (ap tight (sym c.lines-lines.ensures) ∙ sym c.if-is_tight.ensures) (c.in-Some.ensures ∙ ap (λ m. chosen (blocks_for (length ws / 4)) (marked x.page x.dir (looked_at m))) c.lines-lines.ensures)
           (some_blocks step x c.args.new.now.key.now (length ws / 4) ws c.args.new.now.words.now c.args.slot c.in-Some.blocks _ _ c.start_blocks.ensures.done);
       stays = c.start_blocks.ensures.stays;
+      time = c.start_blocks.ensures.time;
     }

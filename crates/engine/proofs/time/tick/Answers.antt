@@ -18,7 +18,7 @@ returns-in-Some-clause-done g c =
     let x = mind_of (g.D.Device.size c.args.memory.now.dev) c.args.held.now c.args.dir.now in
     let none : Changed = Ok None in
     let d = subst (λ (o : Option (List ℕ)). Did step (loop_from (tick_turn c.args.time x) 0 1024 none) c.args.memory.now.dev (Ok o) c.tick_all.new.memory.dev) c.in-Some.is c.in_ok-changed.ensures.did in
-    tick_some step x c.args.time c.in-Some.page d c.commit.ensures.did
+    rw c.ms-held.ensures.is (tick_some step x c.args.time c.in-Some.page d c.commit.ensures.did)
 
 pub returns-in_default-clause-done : goal.returns-in_default-clause-done
 returns-in_default-clause-done g c =
@@ -26,4 +26,4 @@ returns-in_default-clause-done g c =
     let x = mind_of (g.D.Device.size c.args.memory.now.dev) c.args.held.now c.args.dir.now in
     let none : Changed = Ok None in
     let d = subst (λ (o : Option (List ℕ)). Did step (loop_from (tick_turn c.args.time x) 0 1024 none) c.args.memory.now.dev (Ok o) c.tick_all.new.memory.dev) c.in_default.is c.in_ok-changed.ensures.did in
-    tick_none step x c.args.time d
+    rw c.ms-held.ensures.is (tick_none step x c.args.time d)

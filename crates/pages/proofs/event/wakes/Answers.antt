@@ -41,4 +41,4 @@ returns-then-var-ge64 c = wakes_in (length c.args.stack.now) c.args.plan.now c.a
 
 pub returns-else-came-ge64 : goal.returns-else-came-ge64
 unfolding wakes_at worth came
-returns-else-came-ge64 c = wakes_in (length c.args.stack.now) c.args.plan.now c.args.time c.args.flow _ c.goes_on-in-Listens.result c.in-Listens.is (c.goes_on-in-Listens.ensures ∙ ap₂ (λ (p : Place) (vs : List ℕ). ran_on (length c.args.stack.now) c.args.plan.now c.args.time p vs) c.heard-place.ensures.flat.0 c.heard-place.ensures.flat.1 ∙ sym (cond-true _ _ _ (le-leb c.in-Listens.until c.args.time (omega (arith, c.ms-now.ensures.is))) ∙ cond-true _ _ _ (and_from _ _ (lt-ltb c.in-Listens.var 64 c.if-var-ge64.false) (lt-ltb c.in-Listens.came 64 c.if-came-ge64.false))))
+returns-else-came-ge64 c = wakes_in (length c.args.stack.now) c.args.plan.now c.args.time c.args.flow _ c.goes_on-in-Listens.result c.in-Listens.is (c.goes_on-in-Listens.ensures ∙ ap₂ (λ (p : Place) (vs : List ℕ). ran_on (length c.args.stack.now) c.args.plan.now c.args.time p vs) c.hearing_over-place.ensures.flat.0 c.hearing_over-place.ensures.flat.1 ∙ sym (cond-true _ _ _ (le-leb c.in-Listens.until c.args.time (omega (arith, c.ms-now.ensures.is))) ∙ cond-true _ _ _ (and_from _ _ (lt-ltb c.in-Listens.var 64 c.if-var-ge64.false) (lt-ltb c.in-Listens.came 64 c.if-came-ge64.false))))

@@ -19,7 +19,7 @@ returns g c =
     let d1 : Did step (load_words (1 + r % 2 * 5) 0 40) c.load-word.new.self p c.load_words.new.dev =
     subst (λ k. Did step (load_words (1 + r % 2 * 5) 0 k) c.load-word.new.self p c.load_words.new.dev) c.told-root c.load_words.ensures.did in
     let d2 : Did step (load_words 16 0 98304) c.load_words.new.dev q c.load_words-2.new.dev =
-    subst (λ k. Did step (load_words 16 0 k) c.load_words.new.dev q c.load_words-2.new.dev) c.dir.told c.load_words-2.ensures.did in
+    subst (λ k. Did step (load_words 16 0 k) c.load_words.new.dev q c.load_words-2.new.dev) c.told-dir c.load_words-2.ensures.did in
     let d : Did step (rise_work n) c.args.self.now.dev (record { lines = n; now = 0; word = r; page = p; dir = q }) c.load_words-2.new.dev =
     d_load c.load-word.ensures (did_bind (λ p. bind (load_words 16 0 98304) (last r p)) d1 (did_bind (last r p) d2 d_end)) in
     record { did = d; stays = did_size g.met.D.Device.stays d }

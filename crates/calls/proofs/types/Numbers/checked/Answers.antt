@@ -1,6 +1,6 @@
 use Rattle.std.proofs.Common.{◌<◌, ◌*◌, ◌/◌, length, sym, ap, ◌∙◌, arith}
 use Rattle.calls.proofs.Many.{length_numbers, get_numbers, in_bytes}
-use Rattle.calls.proofs.types.Numbers.get.Goals as goal
+use Rattle.calls.proofs.types.Numbers.checked.Goals as goal
 
 pub overflow_mul-WIDTH : goal.overflow_mul-WIDTH
 overflow_mul-WIDTH g c =

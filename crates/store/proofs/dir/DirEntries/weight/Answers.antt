@@ -3,7 +3,7 @@ use Rattle.std.proofs.lemmas.Iterator.{YieldsList-from_range, YieldsList-from_ma
 use Rattle.std.proofs.lemmas.Iterator.Consumers.{YieldsList-at, sum_from_yields_List, fits_from_yields_list}
 use Rattle.store.specs.Finds.{weighs}
 use Rattle.store.proofs.Finds.{weight_sum, weight_fits, weight_low}
-use Rattle.store.proofs.dir.Dir.weight.Goals as goal
+use Rattle.store.proofs.dir.DirEntries.weight.Goals as goal
 
 pub sum-requires-clause-fits : goal.sum-requires-clause-fits
 sum-requires-clause-fits c =

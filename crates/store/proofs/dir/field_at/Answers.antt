@@ -1,6 +1,6 @@
 use Rattle.std.proofs.Common.{rules}
 use Rattle.store.specs.Layout.{field}
-use Rattle.store.proofs.dir.Dir.field.Goals as goal
+use Rattle.store.proofs.dir.field_at.Goals as goal
 
 pub returns : goal.returns
 unfolding field
