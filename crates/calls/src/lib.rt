@@ -6,6 +6,9 @@ pub mod read;
 pub mod types;
 pub mod write;
 
+ghost use Rattle.std.proofs.Common.{arith};
+ghost use Rattle.wire.specs.Bytes.{four_at};
+ghost use Rattle.calls.specs.BytesLemmas.{four_shifts};
 ghost use Rattle.calls.specs.Stands.{ReadsBack, ReadsOnly, CallsCarried};
 
 // The bytes of a call are read as that call, and no others are; what they mean is a call that a line carries.
@@ -21,9 +24,36 @@ pub fn calls_stand() -> u8
 mod tests {
     use super::lines::frame_of;
     use super::read::read_call;
-    use super::types::{Call, Refusal, Reply, Response};
+    use super::types::{Call, Numbers, Refusal, Reply, Response, Wide};
     use super::write::{write_line, write_reply};
     use std::test::Fail;
+    use wire::bytes::four_at;
+
+    // A number of four bytes that has no default.
+    #[derive(Clone, Copy)]
+    struct Bare(u32);
+
+    impl Wide for Bare {
+        ghost WIDTH = { 4 };
+
+        ghost at = { four_at };
+
+        ghost number = { λ b. b.0 };
+
+        ghost some = { Prim.omega arith };
+
+        ghost shifts = { four_shifts };
+
+        const WIDTH: usize = 4;
+
+        fn at(bytes: &[u8], place: usize) -> Bare {
+            Bare(four_at(bytes, place))
+        }
+
+        fn widen(self) -> u64 {
+            u64::from(self.0)
+        }
+    }
 
     #[test]
     fn reads_a_start(rt: HostRuntime) -> Result<(), Fail> {
@@ -43,6 +73,16 @@ mod tests {
         assert_eq!(rt; words.get(1), 0);
         assert_eq!(rt; words.checked(0), Some(261));
         assert_eq!(rt; words.checked(1), None);
+        Ok(())
+    }
+
+    #[test]
+    fn numbers_need_no_default(rt: HostRuntime) -> Result<(), Fail> {
+        let bytes = [0, 0, 0, 1, 0, 0, 2, 0, 7];
+        let numbers = Numbers::<Bare>::new(&bytes);
+        assert_eq!(rt; numbers.len(), 2);
+        assert_eq!(rt; numbers.checked(1).map_or(0, |number| number.widen()), 512);
+        assert!(rt; numbers.checked(2).is_none());
         Ok(())
     }
 

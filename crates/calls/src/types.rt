@@ -22,7 +22,7 @@ pub struct Step(pub u64);
 pub struct Attempt(pub u16);
 
 // A number of a fixed width in bytes, the high byte first.
-pub trait Wide: Default {
+pub trait Wide {
     ghost WIDTH: { ℕ };
 
     // the number at a place
@@ -44,9 +44,11 @@ pub trait Wide: Default {
 
     // a drop in front of it leaves it as it is
     ghost shifts: { (f : List ℕ) (n i : ℕ) → at (drop n f) i ≡ at f (n + i) };
+}
 
-    // where none is given it is 0
-    ghost default_is_0: { (x : Self) → Self.is_default x → number x ≡ 0 };
+// A number that is 0 where none is given.
+pub trait WideOrZero: Wide + Default {
+    ghost default_is_0: { (x : Self) → Self.is_default x → Self.Wide.number x ≡ 0 };
 }
 
 impl Wide for u64 {
@@ -59,8 +61,6 @@ impl Wide for u64 {
     ghost some = { Prim.omega arith };
 
     ghost shifts = { eight_shifts };
-
-    ghost default_is_0 = { λ x e. e };
 
     const WIDTH: usize = 8;
 
@@ -84,8 +84,6 @@ impl Wide for u32 {
 
     ghost shifts = { four_shifts };
 
-    ghost default_is_0 = { λ x e. e };
-
     const WIDTH: usize = 4;
 
     fn at(bytes: &[u8], place: usize) -> u32 {
@@ -95,6 +93,14 @@ impl Wide for u32 {
     fn widen(self) -> u64 {
         u64::from(self)
     }
+}
+
+impl WideOrZero for u64 {
+    ghost default_is_0 = { λ x e. e };
+}
+
+impl WideOrZero for u32 {
+    ghost default_is_0 = { λ x e. e };
 }
 
 // Numbers of one width, as they stand in a call.
@@ -127,13 +133,6 @@ impl<'a, T: Wide> Numbers<'a, T> {
         self.bytes.len() / T::WIDTH
     }
 
-    // 0 past the last.
-    pub fn get(&self, i: usize) -> T
-        ensures { T.number result ≡ slice_index (numbers_held T.WIDTH T.at self.now) i }
-    {
-        self.checked(i).unwrap_or_default()
-    }
-
     // None past the last.
     pub fn checked(&self, i: usize) -> Option<T>
         ensures some { IfSome result (λ n. T.number n ≡ slice_index (numbers_held T.WIDTH T.at self.now) i) }
@@ -144,6 +143,15 @@ impl<'a, T: Wide> Numbers<'a, T> {
         } else {
             None
         }
+    }
+}
+
+impl<'a, T: WideOrZero> Numbers<'a, T> {
+    // 0 past the last.
+    pub fn get(&self, i: usize) -> T
+        ensures { T.number result ≡ slice_index (numbers_held T.WIDTH T.at self.now) i }
+    {
+        self.checked(i).unwrap_or_default()
     }
 }
 

@@ -23,7 +23,10 @@ pub fn copied<T: Wide, const N: usize>(numbers: Numbers<'_, T>) -> Option<[u64; 
     let mut out = [0; N];
     // by place, as `Numbers` gives them: it reads each from the bytes of the call
     for i in 0..numbers.len() {
-        out[i] = numbers.get(i).widen();
+        out[i] = match numbers.checked(i) {
+            Some(number) => number.widen(),
+            None => 0,
+        };
     }
     Some(out)
 }

@@ -49,6 +49,10 @@ odd_none [] h = absurd (h refl)
 odd_none (x ∷ []) h = refl
 odd_none (x ∷ y ∷ ts) h = ap (pair_of (digit_of x) (digit_of y)) (odd_none ts (λ e. h (omega arith))) ∙ no_low (digit_of x) (digit_of y)
 
+-- what is left behind whole pairs, where a text is read pair by pair
+pub odd_rest_none : (bs rest : List ℕ) (o : Option (List ℕ)) → length rest < 2 → (length rest ≡ 0 → ⊥) → o ≡ before bs (bytes_of rest) → o ≡ None
+odd_rest_none bs rest o l h e = e ∙ ap (before bs) (odd_none rest (λ d. h (omega arith)))
+
 pub frame_is : (xs : List ℕ) → is_in xs ≡ true → bytes_of (take (length xs - 3) (drop 3 xs)) ≡ frame_of xs
 frame_is xs e = ap bytes_of (take_rest xs 3) ∙ ap (λ b. cond b (bytes_of (drop 3 xs)) None) (sym e)
 
