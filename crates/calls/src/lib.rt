@@ -1,14 +1,13 @@
 // The calls of a house and its answers: as values, and as bytes.
 #![tactic(auto)]
 
+#[cfg(test)]
+mod bare;
 pub mod lines;
 pub mod read;
 pub mod types;
 pub mod write;
 
-ghost use Rattle.std.proofs.Common.{arith};
-ghost use Rattle.wire.specs.Bytes.{four_at};
-ghost use Rattle.calls.specs.BytesLemmas.{four_shifts};
 ghost use Rattle.calls.specs.Stands.{ReadsBack, ReadsOnly, CallsCarried};
 
 // The bytes of a call are read as that call, and no others are; what they mean is a call that a line carries.
@@ -22,38 +21,12 @@ pub fn calls_stand() -> u8
 
 #[cfg(test)]
 mod tests {
+    use super::bare::Bare;
     use super::lines::frame_of;
     use super::read::read_call;
     use super::types::{Call, Numbers, Refusal, Reply, Response, Wide};
     use super::write::{write_line, write_reply};
     use std::test::Fail;
-    use wire::bytes::four_at;
-
-    // A number of four bytes that has no default.
-    #[derive(Clone, Copy)]
-    struct Bare(u32);
-
-    impl Wide for Bare {
-        ghost WIDTH = { 4 };
-
-        ghost at = { four_at };
-
-        ghost number = { λ b. b.0 };
-
-        ghost some = { Prim.omega arith };
-
-        ghost shifts = { four_shifts };
-
-        const WIDTH: usize = 4;
-
-        fn at(bytes: &[u8], place: usize) -> Bare {
-            Bare(four_at(bytes, place))
-        }
-
-        fn widen(self) -> u64 {
-            u64::from(self.0)
-        }
-    }
 
     #[test]
     fn reads_a_start(rt: HostRuntime) -> Result<(), Fail> {
